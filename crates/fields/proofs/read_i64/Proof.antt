@@ -1,0 +1,31 @@
+use borrow.Author.Needs.{needs}
+use native.Mathlib.Omega.{arith}
+use mathlib.Core.Path.{ap, _∙_}
+use mir.Syntax.{w64}
+use Rattle.fields.specs.Le.{signed}
+use Rattle.fields.proofs.Laws.{field-whole, field-past, kept}
+use Rattle.fields.proofs.read_i64.Statement.{statement}
+use Rattle.fields.proofs.read_i64.Tie as tie
+
+remaining-requires : tie.Need-remaining-requires
+remaining-requires c κs = search needs
+
+returns : tie.Need-returns
+returns c = field-past _ _ _ _ (omega arith)
+
+u64-at-requires : tie.Need-u64-at-requires
+u64-at-requires c κs = search needs
+
+i64-of-requires : tie.Need-i64-of-requires
+i64-of-requires c κs = search needs
+
+add-t3 : tie.Need-add-t3
+add-t3 c = search needs
+
+returns-2 : tie.Need-returns-2
+returns-2 c = field-whole _ _ _ _ _ (omega arith) (kept w64 _ (c .i64-of .ok) ∙ c .i64-of .ensures ∙ ap (signed 63) (c .before .u64-at .ensures))
+
+pub read-i64-spec : {M : Type 1} → statement M
+read-i64-spec =
+    tie.close
+    (tie.spec remaining-requires returns u64-at-requires i64-of-requires add-t3 returns-2)

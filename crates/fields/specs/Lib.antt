@@ -1,0 +1,4 @@
+pub mod Le
+pub mod Parse
+pub mod Fields
+pub mod Answers
