@@ -16,11 +16,103 @@ use mir.ValLaws.{toZ-ofZ}
 use lib.Signed.{mag}
 use lib.Seq.{drop-cons, drop-length, take-nil, take-all}
 use native.Mathlib.Numerals.{add-one}
-use borrow.Author.Tests.{le-leb, lt-leb, lt-ltb, le-ltb, eq-eqb, ne-eqb, eqb-true}
+use borrow.Author.Tests.{le-leb, lt-leb, leb-true, lt-ltb, le-ltb, eq-eqb, ne-eqb, eqb-true}
 use Rattle.fields.specs.Le.{signed}
-use Rattle.fields.specs.Parse.{Parse, got, fails, field}
+use Rattle.fields.specs.Parse.{Parse, got, fails, then, when, check, field}
 use Rattle.fields.specs.Fields.{u32Field, bytesField, stringField, sameBytes}
 use Rattle.fields.specs.declared.Span.{Span}
+
+-- The steps of a parse, by which each way out of a function is one chain: a field that is there, one that is not, a check that passes,
+-- one that does not.
+pub then-got : {A B : Type 0} {m : Parse A} (f : A → ℕ → Parse B) {x : Parse B} {a : A} {n : ℕ} → got a n ≡ m → x ≡ f a n → x ≡ then m f
+unfolding then
+then-got f e h = h ∙ ap (λ (m : Parse _). then m f) e
+
+pub then-fails : {A B : Type 0} {m : Parse A} (f : A → ℕ → Parse B) {k : ℕ} → fails k ≡ m → fails k ≡ then m f
+unfolding then
+then-fails f e = ap (λ (m : Parse _). then m f) e
+
+-- two steps after one another are one
+pub then-then : {A B C : Type 0} (m : Parse A) (g : A → ℕ → Parse B) (f : B → ℕ → Parse C) → then (then m g) f ≡ then m (λ a n. then (g a n) f)
+unfolding then
+then-then (got a n) g f = refl
+then-then (fails k) g f = refl
+
+pub check-passes : {A : Type 0} {ok : Bool} (k : ℕ) {p x : Parse A} → true ≡ ok → x ≡ p → x ≡ check ok k p
+unfolding check
+check-passes k {p = p} e h = h ∙ ap (λ (b : Bool). check b k p) e
+
+pub check-fails : {A : Type 0} {ok : Bool} {k : ℕ} (p : Parse A) → false ≡ ok → fails k ≡ check ok k p
+unfolding check
+check-fails {k = k} p e = ap (λ (b : Bool). check b k p) e
+
+-- the way back: a parse that was got went through each of its steps
+pub then-back : {A B : Type 0} (m : Parse A) (f : A → ℕ → Parse B) {x : B} {n : ℕ} → got x n ≡ then m f → (a : A) × (p : ℕ) × (got a p ≡ m) × (got x n ≡ f a p)
+unfolding then
+then-back (got a p) f e = (a, p, refl, e)
+then-back (fails k) f e = let z : _≡_ {A = ℕ} 0 1 = cc in absurd (omega arith)
+
+pub check-back : {A : Type 0} (ok : Bool) (k : ℕ) (p : Parse A) {x : A} {n : ℕ} → got x n ≡ check ok k p → (ok ≡ true) × (got x n ≡ p)
+unfolding check
+check-back true k p e = (refl, e)
+check-back false k p e = let z : _≡_ {A = ℕ} 0 1 = cc in absurd (omega arith)
+
+pub field-back : {A : Type 0} (s : List ℕ) (at k : ℕ) (b : A) {x : A} {n : ℕ} → got x n ≡ field s at k b → (at + k ≤ length s) × (x ≡ b) × (n ≡ at + k)
+unfolding field
+field-back s at k b e =
+    let c = check-back _ _ _ e in
+    let v = c .1 in
+    (leb-true _ _ (c .0), cc, cc)
+
+-- What holds of everything that a parse can get: by its steps.
+abbrev pub Every : {A : Type 0} → (A → ℕ → Type 0) → Parse A → Type 0
+Every P m = (x : _) (n : ℕ) → got x n ≡ m → P x n
+
+pub got-every : {A : Type 0} (P : A → ℕ → Type 0) (a : A) (p : ℕ) → P a p → Every P (got a p)
+got-every P a p h x n e =
+    let u : x ≡ a = cc in
+    let v : n ≡ p = cc in
+    rw (u, v) h
+
+pub then-every : {A B : Type 0} (P : B → ℕ → Type 0) (m : Parse A) (f : A → ℕ → Parse B) → ((a : A) (p : ℕ) → got a p ≡ m → Every P (f a p)) → Every P (then m f)
+then-every P m f h x n e =
+    let b = then-back m f e in
+    h (b .0) (b .1) (b .2) x n (b .3)
+
+pub check-every : {A : Type 0} (P : A → ℕ → Type 0) (ok : Bool) (k : ℕ) (p : Parse A) → (ok ≡ true → Every P p) → Every P (check ok k p)
+check-every P ok k p h x n e =
+    let b = check-back ok k p e in
+    h (b .0) x n (b .1)
+
+pub field-every : {A : Type 0} (P : A → ℕ → Type 0) (s : List ℕ) (at k : ℕ) (b : A) → (at + k ≤ length s → P b (at + k)) → Every P (field s at k b)
+field-every P s at k b h x n e =
+    let c = field-back s at k b e in
+    rw (c .1, c .2) (h (c .0))
+
+pub when-true : {A : Type 0} {b : Bool} {x z : A} (y : A) → true ≡ b → z ≡ x → z ≡ when b x y
+unfolding when
+when-true {x = x} y e h = h ∙ ap (λ (b : Bool). when b x y) e
+
+pub when-false : {A : Type 0} {b : Bool} (x : A) {y z : A} → false ≡ b → z ≡ y → z ≡ when b x y
+unfolding when
+when-false x {y = y} e h = h ∙ ap (λ (b : Bool). when b x y) e
+
+-- a test's outcome t, and what the test says
+pub is-true : {t b : Bool} → t ≡ true → t ≡ b → true ≡ b
+is-true e h = sym e ∙ h
+
+pub is-false : {t b : Bool} → t ≡ false → t ≡ b → false ≡ b
+is-false e h = sym e ∙ h
+
+-- what an answer says, once it is known which answer it is
+pub told : {A B : Type 0} (f : A → B) {r v : A} {b : B} → r ≡ v → f r ≡ b → f v ≡ b
+told f e h = sym (ap f e) ∙ h
+
+-- a refusal is handed on: r is the answer v, which says check k, and x is the number that is taken out of it
+pub handed :
+    {E A : Type 0} (says : E → Parse A) (number : E → ℕ) {r v : E} {b : Parse A} {x k : ℕ} → r ≡ v → says v ≡ fails k → number v ≡ k → says r ≡ b →
+    x ≡ number r → fails x ≡ b
+handed says number e p q h y = ap fails (y ∙ ap number e ∙ q) ∙ sym p ∙ told says e h
 
 -- the logic's reading of two's complement is ours
 pub signed32 : (n : ℕ) → toZ w32 n ≡ signed 31 n
@@ -46,11 +138,11 @@ no-nan-bits n h = rw (nanBits-above binary64 n, le-ltb _ _ h) tt
 
 -- a field that is whole, and one that is not
 pub field-whole : {A : Type 0} (s : List ℕ) (at n : ℕ) (a b : A) → at + n ≤ length s → a ≡ b → got a (at + n) ≡ field s at n b
-unfolding field
+unfolding field check
 field-whole s at n a b h e = simp (le-leb _ _ h, e)
 
 pub field-past : {A : Type 0} (s : List ℕ) (at n : ℕ) (b : A) → length s < at + n → fails 2 ≡ field s at n b
-unfolding field
+unfolding field check
 field-past s at n b h = simp (lt-leb _ _ h)
 
 -- the two differences undo one another
@@ -60,15 +152,6 @@ not-not m n h = omega arith
 -- a signed number that fits comes back from its bits
 pub kept : (w : Width) (z : ℤ) → mag z < 2 ^ hbits w → toZ w (ofZ w z) ≡ z
 kept w z h = toZ-ofZ w z (record { sfits = h })
-
--- a string whose length is not whole, and one whose length is
-pub string-past : (s : List ℕ) (at : ℕ) → fails 2 ≡ u32Field s at → fails 2 ≡ stringField s at
-unfolding stringField
-string-past s at e = rw (sym e)
-
-pub string-bytes : (s : List ℕ) (at n p : ℕ) → got n p ≡ u32Field s at → bytesField s p n ≡ stringField s at
-unfolding stringField
-string-bytes s at n p e = rw (sym e)
 
 -- byte strings compared from place i on
 pub same-none : (a b : List ℕ) (i : ℕ) → length a ≡ length b → length a ≤ i → true ≡ sameBytes (drop i a) (drop i b)

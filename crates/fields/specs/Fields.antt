@@ -1,5 +1,8 @@
 -- Document 01, section 1: the fields at a position.
 use Prim.Native.Nat.{ℕ, _+_}
+use Prim.Native.Char.{code}
+use Prim.Native.String.{String}
+use Prim.Native.String as S
 use mathlib.Core.List.{List, [], _∷_}
 use mathlib.Core.Bool.{Bool, true, false, _&&_}
 use lib.ListN.{take, drop}
@@ -55,6 +58,11 @@ stringField s at = then (u32Field s at) (λ n p. bytesField s p n)
 -- the bytes that a start and a length stand for
 abbrev pub bytesOf : List ℕ → Span → List ℕ
 bytesOf s w = take (w .len) (drop (w .start) s)
+
+-- the bytes of a text that document 01 names
+abbrev pub ascii : String → List ℕ
+ascii S.[] = []
+ascii (S._∷_ c t) = code c ∷ ascii t
 
 -- "strings compare as bytes"
 unfoldable pub sameBytes : List ℕ → List ℕ → Bool

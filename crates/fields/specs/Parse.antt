@@ -12,17 +12,19 @@ pub data Parse (A : Type 0) : Type 0 where
   fails : ℕ → Parse A
 
 -- the next field, from where this one ends
-abbrev pub then : {A B : Type 0} → Parse A → (A → ℕ → Parse B) → Parse B
+unfoldable pub then : {A B : Type 0} → Parse A → (A → ℕ → Parse B) → Parse B
 then (got a n) f = f a n
 then (fails k) f = fails k
 
-abbrev pub when : {A : Type 0} → Bool → Parse A → Parse A → Parse A
-when true a b = a
-when false a b = b
+-- the first where b holds, else the second
+unfoldable pub when : {A : Type 0} → Bool → A → A → A
+when true x y = x
+when false x y = y
 
 -- check k, made when its field is whole: p goes on where it passes
-abbrev pub check : {A : Type 0} → Bool → ℕ → Parse A → Parse A
-check ok k p = when ok p (fails k)
+unfoldable pub check : {A : Type 0} → Bool → ℕ → Parse A → Parse A
+check true k p = p
+check false k p = fails k
 
 -- a field of n bytes at `at` with the value a: check 2 where it runs past the end
 unfoldable pub field : {A : Type 0} → List ℕ → ℕ → ℕ → A → Parse A

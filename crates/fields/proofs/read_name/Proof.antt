@@ -1,7 +1,7 @@
 use borrow.Author.Needs.{needs}
-use mathlib.Core.Path.{sym, ap, _∙_}
+use Rattle.fields.specs.Fields.{stringField}
 use Rattle.fields.specs.Answers.{saysU32}
-use Rattle.fields.proofs.Laws.{string-past, string-bytes}
+use Rattle.fields.proofs.Laws.{then-got, then-fails, told}
 use Rattle.fields.proofs.read_name.Statement.{statement}
 use Rattle.fields.proofs.read_name.Tie as tie
 
@@ -21,10 +21,12 @@ read-bytes-requires : tie.Need-read-bytes-requires
 read-bytes-requires c κs = search needs
 
 returns : tie.Need-returns
-returns c = string-past _ _ (ap saysU32 (sym (c .enum-told .given .1)) ∙ c .before .before .read-u32 .ensures)
+unfolding stringField
+returns c = then-fails _ (told saysU32 (c .enum-told .given .1) (c .before .before .read-u32 .ensures))
 
 returns-2 : tie.Need-returns-2
-returns-2 c = c .read-bytes .ensures ∙ string-bytes _ _ _ _ (ap saysU32 (sym (c .before .before .n .given .1)) ∙ c .before .before .before .before .read-u32 .ensures)
+unfolding stringField
+returns-2 c = then-got _ (told saysU32 (c .before .before .n .given .1) (c .before .before .before .before .read-u32 .ensures)) (c .read-bytes .ensures)
 
 pub read-name-spec : {M : Type 1} → statement M
 read-name-spec =

@@ -1,0 +1,4 @@
+pub mod Integers
+pub mod Remainder
+pub mod Axis
+pub mod Laws

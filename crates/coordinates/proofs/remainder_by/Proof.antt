@@ -1,0 +1,41 @@
+-- `coordinates::remainder_by` meets its contract: the machine reads v back from its bits and adds 2147483648, which gives a natural
+-- number k below 4294967296 with the same remainder.
+use borrow.Author.Needs.{needs}
+use mathlib.Core.Path.{_≡_, ap, sym, _∙_}
+use native.Mathlib.Omega.{arith}
+use lib.IntN.{ℤ, pos, _+ℤ_}
+use mir.Syntax.{w64}
+use mir.Val.{SFits, toZ, ofZ}
+use mir.Facts.{toZ-ofZ, toZ-pos, sfits-widen}
+use Rattle.coordinates.proofs.Axis.{lifted-in, remainder-lifted}
+use Rattle.coordinates.proofs.remainder_by.Statement.{statement}
+use Rattle.coordinates.proofs.remainder_by.Tie as tie
+
+wide : (c : tie.Start) → SFits w64 (c .args .v)
+wide c = sfits-widen tt (c .fits .v)
+
+sum : (c : tie.Start) → toZ w64 (ofZ w64 (c .args .v)) +ℤ pos 2147483648 ≡ pos (lifted-in (c .args .v) (c .fits .v) .0)
+sum c = ap (λ (z : ℤ). z +ℤ pos 2147483648) (toZ-ofZ (wide c)) ∙ lifted-in (c .args .v) (c .fits .v) .2
+
+cast-result : tie.Need-cast-result
+cast-result c = rw (toZ-ofZ (c .fits .v)) (wide c)
+
+add-result : tie.Need-add-result
+add-result c = let k = lifted-in (c .args .v) (c .fits .v) in rw (toZ-ofZ (c .fits .v), sum c) (record { sfits = omega arith })
+
+cast-result-2 : tie.Need-cast-result-2
+cast-result-2 c =
+    let k = lifted-in (c .args .v) (c .fits .v) in
+    rw (toZ-ofZ (c .fits .v), sum c, toZ-pos w64 {n = k .0} (omega arith)) (tt, record { fits = k .1 })
+
+rem-result : tie.Need-rem-result
+rem-result c = search needs
+
+returns : tie.Need-returns
+returns c =
+    let k = lifted-in (c .args .v) (c .fits .v) in
+    rw (toZ-ofZ (c .fits .v), sum c, toZ-pos w64 {n = k .0} (omega arith))
+    (sym (remainder-lifted (c .args .v) (k .0) (c .args .m) (c .pre .positive) (c .pre .whole) (k .2)))
+
+pub remainder-by-spec : {M : Type 1} → statement M
+remainder-by-spec = tie.close (tie.spec cast-result add-result cast-result-2 rem-result returns)

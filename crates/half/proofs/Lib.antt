@@ -1,0 +1,3 @@
+pub mod Odd
+pub mod Table
+pub mod Laws

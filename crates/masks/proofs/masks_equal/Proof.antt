@@ -1,0 +1,72 @@
+-- The masks agree below the place reached.
+use borrow.Author.Needs.{needs}
+use native.Mathlib.Omega.{arith}
+use mathlib.Core.Path.{_≡_, refl, sym, ap}
+use mathlib.Core.Bool.{true}
+use Prim.Native.Nat.{_≤_, _+_, _-_, _*_, _%_}
+use Rattle.masks.specs.Masks.{maskBit, agree, isNil}
+use Rattle.masks.proofs.Laws.{ones-none}
+use Rattle.masks.proofs.Words.{agree-on, differ-here}
+use Rattle.masks.proofs.masks_equal.Statement.{statement}
+use Rattle.masks.proofs.masks_equal.Tie as tie
+
+abbrev Inv-loop : tie.InvT-loop
+Inv-loop s a b n i₀ i = (i ≤ n) × (i % 8 ≡ 0) × (agree (maskBit s a) (maskBit s b) (8 * i) ≡ true)
+
+abbrev μ-loop : tie.MeasureT-loop
+μ-loop s a b n i₀ i = n - i
+
+loop-holds : tie.Need-loop-holds Inv-loop μ-loop
+loop-holds c = (search needs, refl, ap isNil (ones-none _ 0))
+
+word-requires : tie.Need-word-requires Inv-loop μ-loop
+word-requires c κs = search needs
+
+word-requires-2 : tie.Need-word-requires-2 Inv-loop μ-loop
+word-requires-2 c κs = search needs
+
+returns : tie.Need-returns Inv-loop μ-loop
+returns c =
+    let l = c .before .before .before .before in
+    let a = l .before .before .args in
+    let f = maskBit (a .s .now) (a .a) in
+    let g = maskBit (a .s .now) (a .b) in
+    sym
+    (differ-here f g (8 * l .loop .i) _ _ (c .before .before .word .ensures) (c .before .word2 .ensures) (8 * a .n) (omega arith) (c .if1 .taken))
+
+add-i : tie.Need-add-i Inv-loop μ-loop
+add-i c = search needs
+
+loop-less : tie.Need-loop-less Inv-loop μ-loop
+loop-less c = omega arith
+
+loop-again : tie.Need-loop-again Inv-loop μ-loop
+loop-again c =
+    let l = c .before .before .before .before in
+    let a = l .before .before .args in
+    let f = maskBit (a .s .now) (a .a) in
+    let g = maskBit (a .s .now) (a .b) in
+    let e : 8 * (l .loop .i + 8) ≡ 8 * l .loop .i + 64 = omega arith in
+    let o = agree-on f g (8 * l .loop .i) _ _ (c .before .before .word .ensures) (c .before .word2 .ensures) (l .loop .inv .2) (c .if1 .left) in
+    (omega arith, omega arith, rw e o)
+
+returns-2 : tie.Need-returns-2 Inv-loop μ-loop
+returns-2 c =
+    let l = c .before in
+    let e : l .before .before .args .n ≡ l .loop .i = omega arith in
+    rw e (sym (l .loop .inv .2))
+
+pub masks-equal-spec : {M : Type 1} → statement M
+masks-equal-spec =
+    tie.close
+    (tie.spec
+    Inv-loop
+    μ-loop
+    loop-holds
+    word-requires
+    word-requires-2
+    returns
+    add-i
+    loop-less
+    loop-again
+    returns-2)

@@ -1,0 +1,2 @@
+pub mod Metadata
+pub mod Answers

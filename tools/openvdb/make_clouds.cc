@@ -1,0 +1,457 @@
+// Writes the small clouds that the reader is tested with, all by OpenVDB's own library.
+//
+//     make_clouds DIRECTORY
+//
+// Every tree is Tree_float_5_4_3 unless the cloud is there to be refused. OpenVDB draws 36 random
+// identity bytes for each file; they are set to a fixed text afterwards (set_identity), so that
+// two runs give equal files. No other byte is touched.
+
+#include <openvdb/openvdb.h>
+#include <openvdb/io/Stream.h>
+#include <openvdb/tools/LevelSetSphere.h>
+
+#include <cmath>
+#include <cstring>
+#include <fstream>
+#include <iostream>
+#include <string>
+#include <vector>
+
+namespace {
+
+using openvdb::Coord;
+using openvdb::FloatGrid;
+using openvdb::FloatTree;
+using openvdb::GridBase;
+using openvdb::Vec3d;
+using Leaf = FloatTree::LeafNodeType;                 // 8^3 voxels
+using Node5 = FloatTree::RootNodeType::ChildNodeType; // 32^3 places
+using Node4 = Node5::ChildNodeType;                   // 16^3 places
+
+const uint32_t PLAIN = openvdb::io::COMPRESS_NONE;         // flags 0
+const uint32_t ACTIVE = openvdb::io::COMPRESS_ACTIVE_MASK; // flags 2
+
+std::string directory;
+
+std::string path_of(const std::string& name) { return directory + "/" + name; }
+
+float pattern(uint32_t bits) {
+    float value;
+    std::memcpy(&value, &bits, sizeof value);
+    return value;
+}
+
+// The float whose half is the given pattern.
+float half(uint16_t bits) {
+    openvdb::math::half value;
+    value.setBits(bits);
+    return float(value);
+}
+
+// The identity is at byte 21: after magic (8), version (4), library (8) and the offsets byte (1).
+void set_identity(const std::string& path, int number) {
+    char text[64];
+    std::snprintf(text, sizeof text, "c10ad000-0000-4000-8000-%012d", number);
+    std::fstream file(path, std::ios::in | std::ios::out | std::ios::binary);
+    file.seekp(21);
+    file.write(text, 36);
+}
+
+void write(const std::string& name, int number, uint32_t flags,
+           const openvdb::GridCPtrVec& grids,
+           const openvdb::MetaMap& meta = openvdb::MetaMap()) {
+    {
+        openvdb::io::File file(path_of(name));
+        file.setCompression(flags);
+        file.write(grids, meta);
+    }
+    set_identity(path_of(name), number);
+}
+
+// io::File gives all grids of a file the same flags. This archive makes the library's own calls for
+// a header and for each grid, but sets the flags, the name and the parent before each grid.
+class MixedArchive : public openvdb::io::Archive {
+public:
+    struct Part {
+        GridBase::Ptr grid;
+        uint32_t flags;
+        std::string name; // the descriptor's name
+        std::string parent; // empty, or the descriptor's name whose tree is shared
+    };
+    void save(const std::string& path, const std::vector<Part>& parts,
+              const openvdb::MetaMap& meta) {
+        std::ofstream os(path, std::ios::binary);
+        this->writeHeader(os, /*seekable=*/true);
+        meta.writeMeta(os);
+        const int32_t count = int32_t(parts.size());
+        os.write(reinterpret_cast<const char*>(&count), sizeof count);
+        for (const Part& part : parts) {
+            this->setCompression(part.flags);
+            part.grid->addStatsMetadata();
+            part.grid->insertMeta(
+                GridBase::META_FILE_COMPRESSION,
+                openvdb::StringMetadata(openvdb::io::compressionToString(part.flags)));
+            openvdb::io::GridDescriptor gd(part.name, part.grid->type(),
+                                           part.grid->saveFloatAsHalf());
+            if (part.parent.empty()) {
+                this->writeGrid(gd, part.grid, os, /*seekable=*/true);
+            } else {
+                gd.setInstanceParentName(part.parent);
+                this->writeGridInstance(gd, part.grid, os, /*seekable=*/true);
+            }
+        }
+    }
+};
+
+FloatGrid::Ptr cloud(const std::string& name, float background, openvdb::GridClass kind) {
+    FloatGrid::Ptr grid = FloatGrid::create(background);
+    grid->setName(name);
+    grid->setGridClass(kind);
+    return grid;
+}
+
+FloatGrid::Ptr fog(const std::string& name) {
+    return cloud(name, 0.0f, openvdb::GRID_FOG_VOLUME);
+}
+
+// A leaf with all places inactive at one value, added to the tree.
+Leaf* add_leaf(FloatTree& tree, const Coord& at, float value) {
+    Leaf* leaf = new Leaf(at, value, false);
+    tree.addLeaf(leaf);
+    return leaf;
+}
+
+// Fills the leaf's inactive places in turn with the given values.
+void inactive(Leaf* leaf, const std::vector<float>& values) {
+    size_t n = 0;
+    for (openvdb::Index p = 0; p < Leaf::SIZE; ++p) {
+        if (!leaf->isValueOn(p)) leaf->setValueOff(p, values[n++ % values.size()]);
+    }
+}
+
+// Fog with leaves and active tiles of both levels, three roots, positive and negative coordinates.
+FloatGrid::Ptr fog_cloud() {
+    FloatGrid::Ptr grid = fog("density");
+    grid->setTransform(openvdb::math::Transform::createLinearTransform(0.5));
+    FloatTree& tree = grid->tree();
+
+    // Root (0, 0, 0): a 4-node with three leaves and tiles, one with tiles only, 5-node tiles.
+    Leaf* leaf = add_leaf(tree, Coord(0, 0, 0), 0.0f);
+    leaf->setValueOn(0, 1.0f);
+    leaf->setValueOn(74, 0.625f);
+    leaf->setValueOn(511, pattern(0x3dcccccd));
+    leaf = add_leaf(tree, Coord(0, 0, 24), 0.0f);
+    leaf->setValueOn(1, pattern(0x80000000)); // minus zero
+    leaf->setValueOn(2, pattern(0x00000001)); // the least positive float
+    leaf->setValueOn(63, pattern(0x7f800000)); // infinity
+    leaf->setValueOn(64, pattern(0x7fc12345)); // not a number, with fraction bits
+    leaf->setValueOn(65, pattern(0xff7fffff)); // the least float
+    leaf = add_leaf(tree, Coord(120, 120, 112), 0.0f);
+    leaf->setValueOn(256, 0.5f);
+    tree.addTile(1, Coord(0, 0, 8), 0.75f, true);
+    tree.addTile(1, Coord(120, 120, 120), 0.25f, true);
+    tree.addTile(1, Coord(64, 0, 0), 0.0625f, false); // inactive, and not the background
+    tree.addTile(1, Coord(128, 128, 128), 2.0f, true);
+    tree.addTile(1, Coord(128, 136, 144), 2.5f, true);
+    tree.addTile(2, Coord(0, 0, 128), 0.375f, true);
+    tree.addTile(2, Coord(3968, 3968, 3968), 0.125f, true);
+
+    // Root (-4096, -4096, -4096): one leaf with all places active, and a 5-node tile.
+    leaf = add_leaf(tree, Coord(-8, -8, -8), 0.0f);
+    for (openvdb::Index p = 0; p < Leaf::SIZE; ++p) leaf->setValueOn(p, float(p + 1) / 512.0f);
+    tree.addTile(2, Coord(-4096, -4096, -4096), -1.0f, true);
+
+    // Root (-4096, 0, 4096): the place of document 01's case A, and a leaf with no active place.
+    tree.setValue(Coord(-3847, 249, 4346), 1.0f);
+    add_leaf(tree, Coord(-3840, 248, 4352), 0.0f);
+    return grid;
+}
+
+// The same kinds of nodes, with one root only: without active-mask compression a 5-node stores
+// 32,768 values.
+FloatGrid::Ptr small_fog(const std::string& name) {
+    FloatGrid::Ptr grid = fog(name);
+    grid->setTransform(openvdb::math::Transform::createLinearTransform(0.25));
+    FloatTree& tree = grid->tree();
+    // The 4-node, at place 32,735 of the 5-node, lies between the two active tiles.
+    tree.setValue(Coord(-1, -129, -1), 1.5f);
+    tree.setValue(Coord(-8, -130, -3), 0.1f);
+    tree.setValue(Coord(-128, -256, -128), pattern(0x80000000));
+    Leaf* leaf = tree.touchLeaf(Coord(-128, -256, -128));
+    leaf->setValueOff(7, 0.3f); // inactive places keep their values in such files
+    leaf->setValueOff(500, -4.0f);
+    tree.addTile(1, Coord(-8, -136, -16), 0.75f, true);
+    tree.addTile(1, Coord(-128, -256, -120), 0.2f, false);
+    tree.addTile(2, Coord(-4096, -4096, -4096), -1.0f, true);
+    tree.addTile(2, Coord(-128, -128, -256), 0.7f, true);
+    return grid;
+}
+
+// A sphere made by OpenVDB: background 3, inactive places 3 outside and -3 inside. The centre is
+// chosen so that its leaves have the forms 0, 1 and 3.
+FloatGrid::Ptr sphere() {
+    FloatGrid::Ptr grid = openvdb::tools::createLevelSetSphere<FloatGrid>(
+        /*radius=*/6.0f, /*centre=*/openvdb::Vec3f(-63.0f, 66.0f, -20.0f),
+        /*voxelSize=*/1.0f, /*halfWidth=*/3.0f);
+    grid->setName("surface");
+    return grid;
+}
+
+// Leaves and 4-nodes of all seven forms: background 3, one root. The 4-node numbered f is of form
+// f, and its leaf numbered f is too. (OpenVDB chooses the form from the inactive values.)
+FloatGrid::Ptr form_cloud() {
+    FloatGrid::Ptr grid = cloud("forms", 3.0f, openvdb::GRID_LEVEL_SET);
+    FloatTree& tree = grid->tree();
+    const std::vector<std::vector<float>> fills = {
+        {3.0f}, {-3.0f}, {7.5f}, {3.0f, -3.0f}, {3.0f, 0.1f}, {0.25f, -9.0f}, {1.0f, 2.0f, 4.0f}};
+    Node5* root = new Node5(Coord(0, -4096, 0), 3.0f, false);
+    tree.root().addChild(root);
+    for (size_t form = 0; form < fills.size(); ++form) {
+        const std::vector<float>& fill = fills[form];
+        Node4* node = new Node4(Coord(0, -4096, 128 * int(form)), fill[0], false);
+        root->addChild(node);
+        // From place 1000 on the inactive places take the form's values in turn.
+        for (size_t n = 0; n < 24; ++n) {
+            node->addTile(openvdb::Index(1000 + n), fill[n % fill.size()], false);
+        }
+        node->addTile(openvdb::Index(5 + form), 0.5f + float(form), true);
+        node->addTile(openvdb::Index(4095), -0.5f - float(form), true);
+
+        Leaf* leaf = new Leaf(Coord(8, -4096, 128 * int(form)), 3.0f, false);
+        node->addLeaf(leaf);
+        for (openvdb::Index p = openvdb::Index(form); p < Leaf::SIZE; p += 100) {
+            leaf->setValueOn(p, float(p) / 8.0f);
+        }
+        inactive(leaf, fill);
+    }
+    return grid;
+}
+
+// 5-nodes of the forms 1 to 5 (form 6 would store 32,768 values): background 3, one root each.
+FloatGrid::Ptr root_cloud() {
+    FloatGrid::Ptr grid = cloud("roots", 3.0f, openvdb::GRID_LEVEL_SET);
+    FloatTree& tree = grid->tree();
+    const std::vector<std::vector<float>> fills = {
+        {-3.0f}, {7.5f}, {-3.0f, 3.0f}, {0.1f, 3.0f}, {-9.0f, 0.25f}};
+    for (size_t n = 0; n < fills.size(); ++n) {
+        const std::vector<float>& fill = fills[n];
+        // Two origins have negative coordinates; the third one made comes last in the file.
+        const Coord at = Coord(4096, 4096, 4096).offsetBy(
+            n < 1 ? -8192 : 0, n < 2 ? -8192 : 0, 4096 * int(n % 3));
+        Node5* root = new Node5(at, fill[0], false);
+        tree.root().addChild(root);
+        for (openvdb::Index p = 2000; p < 2040; ++p) {
+            root->addTile(p, fill[p % fill.size()], false);
+        }
+        root->addTile(openvdb::Index(33 * n), 1.0f + float(n), true);
+        root->addTile(openvdb::Index(32767), -1.0f - float(n), true);
+    }
+    // One leaf under the root of form 5. Its 4-node's and its own inactive places hold -9: form 2.
+    tree.setValue(Coord(4100, 4101, 8198), 6.0f);
+    return grid;
+}
+
+// Halves: subnormal, largest, infinite, not a number, minus zero, and values that have to be
+// rounded. Background and inactive values are rounded to halves too, but take four bytes.
+FloatGrid::Ptr half_cloud() {
+    FloatGrid::Ptr grid = cloud("halves", 0.1f, openvdb::GRID_UNKNOWN);
+    grid->setSaveFloatAsHalf(true);
+    FloatTree& tree = grid->tree();
+    const uint16_t halves[] = {0x0000, 0x0001, 0x0002, 0x03ff, 0x0400, 0x0401, 0x3555, 0x3c00,
+                               0x7bff, 0x7c00, 0x7e00, 0x7e01, 0x8000, 0x8001, 0x83ff, 0x8400,
+                               0xbc00, 0xfbff, 0xfc00, 0xfe00};
+    const std::vector<std::vector<float>> fills = {
+        {0.1f}, {-0.1f}, {0.3f}, {0.1f, -0.1f}, {0.1f, 0.7f}, {0.3f, 0.7f}, {0.2f, 0.3f, 0.7f}};
+    for (size_t form = 0; form < fills.size(); ++form) {
+        Leaf* leaf = add_leaf(tree, Coord(-4096, 0, 8 * int(form)), 0.1f);
+        openvdb::Index p = openvdb::Index(form);
+        for (uint16_t bits : halves) {
+            leaf->setValueOn(p, half(bits));
+            p += 7;
+        }
+        leaf->setValueOn(400, 1.0f / 3.0f);
+        leaf->setValueOn(401, 65519.0f); // rounds to the largest half
+        leaf->setValueOn(402, 1e-9f);    // rounds to zero
+        inactive(leaf, fills[form]);
+    }
+    tree.addTile(1, Coord(-4096, 0, 64), 1e-7f, true); // a subnormal half
+    tree.addTile(1, Coord(-4096, 8, 0), 0.7f, false);
+    tree.addTile(1, Coord(-3976, 120, 120), half(0x8001), true);
+    tree.addTile(2, Coord(-4096, 0, 128), half(0x0155), true);
+    tree.addTile(2, Coord(-128, 3968, 3968), 0.9f, true);
+    tree.addTile(2, Coord(-4096, 128, 0), 0.3f, false);
+    return grid;
+}
+
+// Voxels in the first and in the last corner of all coordinates.
+FloatGrid::Ptr edge_cloud() {
+    FloatGrid::Ptr grid = fog("edge");
+    FloatTree& tree = grid->tree();
+    const int low = -2147483647 - 1, high = 2147483647;
+    tree.setValue(Coord(low, low, low), 1.0f);
+    tree.setValue(Coord(high, high, high), 2.0f);
+    tree.addTile(1, Coord(low, low, low + 8), 3.0f, true);
+    tree.addTile(1, Coord(high - 7, high - 7, high - 15), 4.0f, true);
+    tree.addTile(2, Coord(low, low, low + 128), 5.0f, true);
+    tree.addTile(2, Coord(high - 127, high - 127, high - 255), 6.0f, true);
+    return grid;
+}
+
+// Entries of every kind.
+void all_kinds(openvdb::MetaMap& meta, int shift) {
+    using namespace openvdb;
+    meta.insertMeta("a string", StringMetadata("haze \xc3\xa9t\xc3\xa9"));
+    meta.insertMeta("an empty string", StringMetadata(""));
+    meta.insertMeta("bool no", BoolMetadata(false));
+    meta.insertMeta("bool yes", BoolMetadata(true));
+    meta.insertMeta("double", DoubleMetadata(0.1 + shift));
+    meta.insertMeta("float", FloatMetadata(0.1f + float(shift)));
+    meta.insertMeta("int32", Int32Metadata(-7 - shift));
+    meta.insertMeta("int32 least", Int32Metadata(-2147483647 - 1));
+    meta.insertMeta("int64", Int64Metadata(-(int64_t(1) << 40) + shift));
+    meta.insertMeta("int64 most", Int64Metadata(INT64_MAX));
+    meta.insertMeta("mat4d", Mat4DMetadata(math::Mat4d::identity()));
+    meta.insertMeta("vec2i", Vec2IMetadata(Vec2i(1, -2)));
+    meta.insertMeta("vec3d", Vec3DMetadata(Vec3d(0.5, -0.25, shift)));
+    meta.insertMeta("vec3i", Vec3IMetadata(Vec3i(-1, shift, 2147483647)));
+    meta.insertMeta("vec3s", Vec3SMetadata(Vec3s(0.5f, -0.25f, float(shift))));
+    UnknownMetadata curve("curve"); // a kind that OpenVDB itself does not know
+    curve.setValue({0xde, 0xad, 0xbe, 0xef, 0x00});
+    meta.insertMeta("curve", curve);
+    meta.insertMeta("curve empty", UnknownMetadata("curve"));
+}
+
+// Six grids, not in the order of their names, with all four maps, flags 0 and 2, both widths.
+void several(const std::string& name, int number) {
+    using openvdb::math::MapBase;
+    using openvdb::math::Transform;
+    std::vector<MixedArchive::Part> parts;
+
+    FloatGrid::Ptr grid = fog("zeta"); // a leaf and a tile; every kind of metadata
+    grid->setTransform(Transform::createLinearTransform(0.1));
+    grid->tree().setValue(Coord(1, 2, 3), 0.5f);
+    grid->tree().addTile(1, Coord(8, 16, 24), 0.25f, true);
+    all_kinds(*grid, 1);
+    parts.push_back({grid, ACTIVE, openvdb::io::GridDescriptor::addSuffix("zeta", 0), ""});
+
+    grid = cloud("alpha", 1.0f, openvdb::GRID_UNKNOWN); // saved as halves; a negative scale
+    grid->setSaveFloatAsHalf(true);
+    grid->setTransform(Transform::Ptr(new Transform(
+        MapBase::Ptr(new openvdb::math::ScaleMap(Vec3d(-1.5, 2.0, 0.3))))));
+    grid->tree().setValue(Coord(-1, -1, -1), 1.0f / 3.0f);
+    grid->tree().addTile(2, Coord(-256, -256, -256), 0.1f, true);
+    parts.push_back({grid, ACTIVE, "alpha", ""});
+
+    grid = cloud("", -0.0f, openvdb::GRID_UNKNOWN); // no name, no roots, plain
+    grid->setTransform(Transform::Ptr(new Transform(MapBase::Ptr(
+        new openvdb::math::ScaleTranslateMap(Vec3d(1.0, 2.0, 4.0), Vec3d(-0.5, 0.1, 1e9))))));
+    parts.push_back({grid, PLAIN, "", ""});
+
+    grid = fog("slab"); // root tiles, active and not, beside a root
+    grid->setTransform(Transform::Ptr(new Transform(MapBase::Ptr(
+        new openvdb::math::UniformScaleTranslateMap(0.25, Vec3d(3.0, -4.0, 5.0))))));
+    grid->tree().addTile(3, Coord(-8192, 0, 0), 0.5f, true);
+    grid->tree().addTile(3, Coord(8192, 0, 0), 0.75f, false);
+    grid->tree().setValue(Coord(-5000, -5000, -5000), 0.875f);
+    grid->tree().addTile(2, Coord(-4224, -4224, -4224), 0.5f, true);
+    parts.push_back({grid, ACTIVE, "slab", ""});
+
+    // A second cloud of the first one's name, with a root tile only. OpenVDB tells such names apart
+    // by a byte 1e and a number.
+    grid = cloud("zeta", 2.0f, openvdb::GRID_UNKNOWN);
+    grid->tree().addTile(3, Coord(0, -4096, 0), 0.5f, true);
+    parts.push_back({grid, PLAIN, openvdb::io::GridDescriptor::addSuffix("zeta", 1), ""});
+
+    grid = cloud("zeta half", 0.3f, openvdb::GRID_UNKNOWN); // no roots, halves, plain
+    grid->setSaveFloatAsHalf(true);
+    parts.push_back({grid, PLAIN, "zeta half", ""});
+
+    openvdb::MetaMap meta;
+    all_kinds(meta, 2);
+    MixedArchive().save(path_of(name), parts, meta);
+    set_identity(path_of(name), number);
+}
+
+// Grids that the reader refuses to open, each for its own reason, in a file that opens; the last
+// one is accepted.
+void refused(const std::string& name, int number) {
+    using openvdb::math::MapBase;
+    using openvdb::math::Transform;
+    const uint32_t zip = openvdb::io::COMPRESS_ZIP, blosc = openvdb::io::COMPRESS_BLOSC;
+    std::vector<MixedArchive::Part> parts;
+
+    openvdb::Int32Grid::Ptr counts = openvdb::Int32Grid::create(7);
+    counts->setName("counts"); // another value type
+    parts.push_back({counts, ACTIVE, "counts", ""});
+
+    openvdb::DoubleGrid::Ptr doubles = openvdb::DoubleGrid::create(0.5);
+    doubles->setName("doubles");
+    doubles->setSaveFloatAsHalf(true); // Tree_double_5_4_3_HalfFloat
+    parts.push_back({doubles, ACTIVE, "doubles", ""});
+
+    FloatGrid::Ptr tree = cloud("tree", 0.5f, openvdb::GRID_UNKNOWN);
+    tree->tree().setValue(Coord(-200, 300, -400), 0.75f);
+    parts.push_back({tree, ACTIVE, "tree", ""});
+    FloatGrid::Ptr shared = tree->copy(); // a grid with the tree of the one before
+    shared->setName("shared");
+    shared->setTransform(Transform::createLinearTransform(3.0));
+    parts.push_back({shared, ACTIVE, "shared", "tree"});
+
+    parts.push_back({cloud("zip", 0.5f, openvdb::GRID_UNKNOWN), zip | ACTIVE, "zip", ""});
+    parts.push_back({cloud("blosc", 0.5f, openvdb::GRID_UNKNOWN), blosc | ACTIVE, "blosc", ""});
+    parts.push_back({cloud("zip alone", 0.5f, openvdb::GRID_UNKNOWN), zip, "zip alone", ""});
+
+    FloatGrid::Ptr turned = cloud("turned", 0.5f, openvdb::GRID_UNKNOWN); // AffineMap
+    openvdb::math::Mat4d turn = openvdb::math::Mat4d::identity();
+    turn.preRotate(openvdb::math::Z_AXIS, 0.5);
+    turn.postTranslate(Vec3d(1.0, 2.0, 3.0));
+    turned->setTransform(Transform::createLinearTransform(turn));
+    parts.push_back({turned, ACTIVE, "turned", ""});
+
+    FloatGrid::Ptr camera = cloud("camera", 0.5f, openvdb::GRID_UNKNOWN); // NonlinearFrustumMap
+    camera->setTransform(Transform::createFrustumTransform(
+        openvdb::BBoxd(Vec3d(0.0), Vec3d(100.0)), /*taper=*/0.5, /*depth=*/10.0));
+    parts.push_back({camera, ACTIVE, "camera", ""});
+
+    parts.push_back({cloud("last", 0.5f, openvdb::GRID_UNKNOWN), ACTIVE, "last", ""});
+    MixedArchive().save(path_of(name), parts, openvdb::MetaMap());
+    set_identity(path_of(name), number);
+}
+
+// A file without grid positions (offsets byte 0), as OpenVDB writes to a pipe.
+void stream(const std::string& name, int number) {
+    {
+        std::ofstream os(path_of(name), std::ios::binary);
+        openvdb::io::Stream archive(os);
+        archive.setCompression(ACTIVE);
+        openvdb::GridCPtrVec grids = {fog("piped")};
+        archive.write(grids);
+    }
+    set_identity(path_of(name), number);
+}
+
+} // namespace
+
+int main(int argc, char** argv) {
+    if (argc != 2) {
+        std::cerr << "usage: make_clouds DIRECTORY\n";
+        return 2;
+    }
+    directory = argv[1];
+    openvdb::initialize();
+    write("fog_active.vdb", 1, ACTIVE, {fog_cloud()});
+    write("fog_plain.vdb", 2, PLAIN, {small_fog("density")});
+    write("levelset_active.vdb", 3, ACTIVE, {sphere()});
+    write("forms_active.vdb", 4, ACTIVE, {form_cloud()});
+    write("roots_active.vdb", 5, ACTIVE, {root_cloud()});
+    write("half_active.vdb", 6, ACTIVE, {half_cloud()});
+    FloatGrid::Ptr plain = small_fog("density");
+    plain->setSaveFloatAsHalf(true);
+    write("half_plain.vdb", 7, PLAIN, {plain});
+    write("edge.vdb", 8, ACTIVE, {edge_cloud()});
+    several("several.vdb", 9);
+    refused("refused.vdb", 10);
+    write("no_grids.vdb", 11, ACTIVE, {});
+    stream("stream.vdb", 12);
+    return 0;
+}
