@@ -2,7 +2,7 @@
 -- A field read at a position of the file is its value with the position after it, or the number of the check that fails.
 -- A parse stops at its first failure because `then` does: the order of the fields is the order of the checks.
 use Prim.Native.Nat.{ℕ, _+_}
-use mathlib.Core.List.{List}
+use mathlib.Core.List.{List, [], _∷_}
 use mathlib.Core.Bool.{Bool, true, false}
 use lib.ListN.{length}
 use lib.Dec.{leb}
@@ -29,3 +29,11 @@ check false k p = fails k
 -- a field of n bytes at `at` with the value a: check 2 where it runs past the end
 unfoldable pub field : {A : Type 0} → List ℕ → ℕ → ℕ → A → Parse A
 field s at n a = check (leb (at + n) (length s)) 2 (got a (at + n))
+
+-- one parse after another, for each member of a list
+unfoldable pub many : {A B : Type 0} → (A → ℕ → Parse B) → List A → ℕ → Parse (List B)
+many f [] at = got [] at
+many f (a ∷ rest) at =
+    then (f a at) λ b p.
+    then (many f rest p) λ bs q.
+    got (b ∷ bs) q

@@ -2,7 +2,7 @@
 ghost use mathlib.Core.Path.{_≡_};
 ghost use Prim.Native.Nat.{_+_, _≤_, _<_, _^_};
 ghost use lib.ListN.{length};
-ghost use Rattle.half.specs.Half.{isTable, isTimes, isWidth, storedValue, widened};
+ghost use Rattle.half.specs.Half.{exponent, isTable, isTimes, isWidth, storedValue, widened};
 
 // Entry k is the 32-bit pattern of k times 2 to the minus 24, the value of the subnormal half (zero among them) with the fraction k.
 const SUBNORMALS: [u32; 1024] = [
@@ -1032,34 +1032,42 @@ const SUBNORMALS: [u32; 1024] = [
     0x387fc000,
 ];
 
-// The table as a value, so that what its 1,024 entries are is promised once.
-fn subnormals() -> [u32; 1024]
+// The table as a value, so that what its 1,024 entries are is promised once. To make it is to copy 4 KB: who widens many halves makes it once
+// and lends it to `widen_with` or `value_with`.
+pub fn subnormals() -> [u32; 1024]
     ensures { λ r. ⌜ isTable r ⌝ }
 {
     SUBNORMALS
 }
 
-// Its caller has a fraction, which has ten bits.
-fn subnormal(t: usize) -> u32
-    requires { ⌜ t < 1024 ⌝ }
+// Its caller has the table, and a fraction, which has ten bits.
+fn subnormal(table: &[u32; 1024], t: usize) -> u32
+    requires { ⌜ isTable (now table) × (t < 1024) ⌝ }
     ensures { λ r. ⌜ (r ≡ widened t) × isTimes t r × (r < 2 ^ 31) ⌝ }
 {
-    let table = subnormals();
     table[t]
 }
 
-// The fraction moves up 13 bits, and the exponent, which counts from 127 where a half's counts from 15, grows by 112. 0x7f80_0000 is an
-// exponent of all ones: an infinity, or a NaN, whose quiet bit is set.
-pub fn widen(h: u16) -> u32
+// A half with exponent 0: the fraction's entry, and the sign.
+fn widen_subnormal(table: &[u32; 1024], h: u16) -> u32
+    requires { ⌜ isTable (now table) × (exponent h ≡ 0) ⌝ }
+    ensures { λ r. ⌜ r ≡ widened h ⌝ }
+{
+    let p = h as u32;
+    let sign = p / 0x8000 * 0x8000_0000;
+    sign + subnormal(table, (p % 0x0400) as usize)
+}
+
+// Any other half. The fraction moves up 13 bits, and the exponent, which counts from 127 where a half's counts from 15, grows by 112.
+// 0x7f80_0000 is an exponent of all ones: an infinity, or a NaN, whose quiet bit is set.
+fn widen_normal(h: u16) -> u32
+    requires { ⌜ 0 < exponent h ⌝ }
     ensures { λ r. ⌜ r ≡ widened h ⌝ }
 {
     let p = h as u32;
     let sign = p / 0x8000 * 0x8000_0000;
     let x = p / 0x0400 % 32;
     let t = p % 0x0400;
-    if x == 0 {
-        return sign + subnormal(t as usize);
-    }
     if x < 31 {
         return sign + (x + 112) * 0x0080_0000 + t * 0x2000;
     }
@@ -1072,7 +1080,40 @@ pub fn widen(h: u16) -> u32
     sign + 0x7f80_0000 + t * 0x2000
 }
 
-// The stored value that starts at a position, of 2 bytes or 4. Its callers have tested that its bytes are there.
+// With the table that the caller lends.
+pub fn widen_with(table: &[u32; 1024], h: u16) -> u32
+    requires { ⌜ isTable (now table) ⌝ }
+    ensures { λ r. ⌜ r ≡ widened h ⌝ }
+{
+    if h / 0x0400 % 32 == 0 {
+        return widen_subnormal(table, h);
+    }
+    widen_normal(h)
+}
+
+// One half: the table is made only where it is looked at.
+pub fn widen(h: u16) -> u32
+    ensures { λ r. ⌜ r ≡ widened h ⌝ }
+{
+    if h / 0x0400 % 32 == 0 {
+        let table = subnormals();
+        return widen_subnormal(&table, h);
+    }
+    widen_normal(h)
+}
+
+// The stored value that starts at a position, of 2 bytes or 4. The callers have tested that its bytes are there.
+pub fn value_with(table: &[u32; 1024], s: &[u8], at: usize, width: usize) -> u32
+    requires { ⌜ isTable (now table) × (at + width ≤ length (now s)) × isWidth width ⌝ }
+    ensures { λ r. ⌜ r ≡ storedValue width (now (s .entry)) at ⌝ }
+{
+    if width == 2 {
+        return widen_with(table, fields::u16_at(s, at) as u16);
+    }
+    fields::u32_at(s, at)
+}
+
+// One stored value, with no table lent.
 pub fn value_at(s: &[u8], at: usize, width: usize) -> u32
     requires { ⌜ (at + width ≤ length (now s)) × isWidth width ⌝ }
     ensures { λ r. ⌜ r ≡ storedValue width (now (s .entry)) at ⌝ }

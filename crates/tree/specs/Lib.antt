@@ -1,0 +1,4 @@
+pub mod Topology
+pub mod Blocks
+pub mod Active
+pub mod Passing
