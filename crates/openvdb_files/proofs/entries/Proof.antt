@@ -1,0 +1,63 @@
+use borrow.Author.Needs.{needs}
+use mathlib.Core.Logic.{⊎-elim}
+use native.Mathlib.Omega.{arith}
+use mathlib.Core.Path.{_≡_}
+use Prim.Native.Nat.{_≤_, _<_, _-_}
+use lib.ListN.{length, length-set}
+use Rattle.openvdb_files.proofs.entries.Statement.{statement}
+use Rattle.openvdb_files.proofs.entries.Tie as tie
+use Rattle.fields.proofs.bytes_of.Reads as bytes-of-reads
+use Rattle.openvdb_files.proofs.entry.Reads as entry-reads
+
+abbrev Inv-loop : tie.InvT-loop
+Inv-loop s scope grid names first₀ i₀ i-end first i = (i ≤ i-end) × (i-end ≡ length names) × (first ≤ i)
+
+abbrev μ-loop : tie.MeasureT-loop
+μ-loop s scope grid names first₀ i₀ i-end first i = i-end - i
+
+loop-holds : tie.Need-loop-holds Inv-loop μ-loop
+loop-holds c = search needs
+
+shared-slice-read-if1 : tie.Need-shared-slice-read-if1 Inv-loop μ-loop
+shared-slice-read-if1 c = search needs
+
+sub-t12 : tie.Need-sub-t12 Inv-loop μ-loop
+sub-t12 c = search needs
+
+bytes-of-requires : tie.Need-bytes-of-requires Inv-loop μ-loop
+bytes-of-requires c κs = search needs
+
+entry-requires : tie.Need-entry-requires Inv-loop μ-loop
+entry-requires c κs = search needs
+
+add-first : tie.Need-add-first Inv-loop μ-loop
+add-first c = search needs
+
+add-i : tie.Need-add-i Inv-loop μ-loop
+add-i c = search needs
+
+loop-less : tie.Need-loop-less Inv-loop μ-loop
+loop-less c = search needs
+
+loop-again : tie.Need-loop-again Inv-loop μ-loop
+loop-again c = ⊎-elim (λ w. omega arith) (λ w. omega arith) (c .if1 .came)
+
+returns : tie.Need-returns Inv-loop μ-loop
+returns c = search needs
+
+pub entries-spec : {M : Type 1} → statement M
+entries-spec =
+    tie.close
+    (tie.spec
+    Inv-loop
+    μ-loop
+    loop-holds
+    shared-slice-read-if1
+    sub-t12
+    bytes-of-requires
+    entry-requires
+    add-first
+    add-i
+    loop-less
+    loop-again
+    returns)

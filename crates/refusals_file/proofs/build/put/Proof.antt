@@ -1,0 +1,64 @@
+use borrow.Author.Needs.{needs}
+use native.Mathlib.Omega.{arith}
+use mathlib.Core.Path.{_≡_}
+use Prim.Native.Nat.{_≤_, _<_, _-_}
+use lib.ListN.{length, length-set}
+use Rattle.refusals_file.proofs.build.put.Statement.{statement}
+use Rattle.refusals_file.proofs.build.put.Tie as tie
+
+abbrev Inv-loop : tie.InvT-loop
+Inv-loop f₀ at bytes p₀ i₀ i-end f p i = (i ≤ i-end) × (i-end ≡ length bytes) × (length f ≡ length f₀)
+
+abbrev μ-loop : tie.MeasureT-loop
+μ-loop f₀ at bytes p₀ i₀ i-end f p i = i-end - i
+
+loop-holds : tie.Need-loop-holds Inv-loop μ-loop
+loop-holds c = search needs
+
+same-length : tie.Need-same-length Inv-loop μ-loop
+same-length c = search needs
+
+returns : tie.Need-returns Inv-loop μ-loop
+returns c = search needs
+
+shared-slice-read-f : tie.Need-shared-slice-read-f Inv-loop μ-loop
+shared-slice-read-f c = search needs
+
+slice-write-f : tie.Need-slice-write-f Inv-loop μ-loop
+slice-write-f c = search needs
+
+add-p : tie.Need-add-p Inv-loop μ-loop
+add-p c = search needs
+
+add-i : tie.Need-add-i Inv-loop μ-loop
+add-i c = search needs
+
+loop-less : tie.Need-loop-less Inv-loop μ-loop
+loop-less c = search needs
+
+loop-again : tie.Need-loop-again Inv-loop μ-loop
+loop-again c = simp length-set (omega arith)
+
+same-length-2 : tie.Need-same-length-2 Inv-loop μ-loop
+same-length-2 c = search needs
+
+returns-2 : tie.Need-returns-2 Inv-loop μ-loop
+returns-2 c = search needs
+
+pub put-spec : {M : Type 1} → statement M
+put-spec =
+    tie.close
+    (tie.spec
+    Inv-loop
+    μ-loop
+    loop-holds
+    same-length
+    returns
+    shared-slice-read-f
+    slice-write-f
+    add-p
+    add-i
+    loop-less
+    loop-again
+    same-length-2
+    returns-2)
