@@ -26,8 +26,8 @@ def check(condition, number):
 class Reader:
     """The file's bytes with a reading position. A field is whole (check 2) before it is looked at."""
 
-    def __init__(self, data, at=0):
-        self.data, self.at = data, at
+    def __init__(self, data):
+        self.data, self.at = data, 0
 
     def field(self, size):
         check(self.at + size <= len(self.data), 2)
@@ -265,6 +265,7 @@ BASES = {
 FILES = [
     'case A',
     (0, 'A', 'all', []),
+    'row 1, over 2,147,483,647 bytes, stands in the contracts alone: no such buffer can be lent',
     'row 2: the first 64 bytes',
     (2, 'A', 'all', [], 64),
     'row 3: first byte 21',

@@ -1,12 +1,15 @@
 #!/usr/bin/env python3
-"""Prints what crates/refusals_grid must print: answers for case A and its variants.
+"""Prints what crates/refusals_grid must print, answers for case A and its variants, or what
+crates/refusals_forms must print, answers for each node byte and for versions 220 and 221.
 
     refusals_grid.py > crates/refusals_grid/stdout
+    refusals_grid.py forms > crates/refusals_forms/stdout
 
 The reader below follows document 01, section by section, and nothing else. The files are built here
 again, field by field.
 """
 import struct
+import sys
 
 
 class Refused(Exception):
@@ -443,8 +446,7 @@ def forms(name, flags, entries, width):
         answers('leaf byte %d' % byte, data + bytes(160000 - len(data)))
 
 
-def main():
-    assert len(A) == 9637 and len(OLD) == 159136
+def rows():
     print('named e %s, numbered 1 %s' % (opened(A, b'e'), opened(A, 1)))
     for asked, leaf in ((b'd', 0), (b'd', 1), (b'd', 2 ** 64 - 1), (b'e', 0)):
         print('leaf %d of %s %s' % (leaf, asked.decode(), fill(A, asked, leaf)))
@@ -457,6 +459,9 @@ def main():
     for name, block_at, at, new in CUTS:
         data = changed(A, 102, u64(block_at) + u64(118))
         cuts('cut, block at %d%s' % (block_at, name), changed(data, at, new), 118)
+
+
+def all_forms():
     forms('flags 2, width 4', 2, u32(0), 4)
     forms('flags 0, width 4', 0, u32(0), 4)
     forms('flags 2, width 2', 2, HALF + b'\1', 2)
@@ -471,4 +476,5 @@ def main():
     cuts('version 220 cut from 157000', OLD, 157000)
 
 
-main()
+assert len(A) == 9637 and len(OLD) == 159136
+all_forms() if sys.argv[1:] == ['forms'] else rows()

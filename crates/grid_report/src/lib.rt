@@ -1,5 +1,6 @@
 // What the test programs print of an opened grid and of a leaf fill.
 ghost use Prim.Native.Nat.{_<_};
+use fields::Span;
 use grid::FillAnswer;
 use grid::GridAnswer;
 use grid::OpenedGrid;
@@ -84,4 +85,49 @@ pub fn leaf(s: &[u8], n: u32, number: u64) {
     let mut slots = [7u32; 512];
     let a = grid::fill_leaf_numbered(s, n, number, &mut slots);
     filled(a, &slots);
+}
+
+// By the name "d", by the number 0, and the fill of leaf 0.
+pub fn answers(s: &[u8]) {
+    report::text(b": named");
+    answer(grid::open_grid_named(s, b"d"));
+    report::text(b", numbered");
+    answer(grid::open_grid_numbered(s, 0));
+    report::text(b", leaf");
+    leaf(s, 0, 0);
+    report::text(b"\n");
+}
+
+// The number that opening grid 0 of the first n bytes refuses with; 0 where it does not.
+fn refusal(s: &[u8], n: usize) -> u32 {
+    match grid::open_grid_numbered(fields::bytes_of(s, Span { start: 0, len: n }), 0) {
+        GridAnswer::Refused(k) => k,
+        GridAnswer::Grid(_) => 0,
+    }
+}
+
+fn run_of(first: usize, end: usize, k: u32) {
+    if first < end {
+        number((end - first) as u64);
+        report::text(b" of");
+        number(k as u64);
+    }
+}
+
+// The numbers for the file cut to each length from `from` on, as runs: how many cuts in a row, and their number.
+pub fn cuts(s: &[u8], from: usize) {
+    let mut last = 0;
+    let mut first = from;
+    for n in from..s.len() {
+        let k = refusal(s, n);
+        if k != last {
+            run_of(first, n, last);
+            last = k;
+            first = n;
+        }
+    }
+    run_of(first, s.len(), last);
+    report::text(b", whole");
+    number(refusal(s, s.len()) as u64);
+    report::text(b"\n");
 }

@@ -1,9 +1,9 @@
 // Opens case A of document 01, section 9, and other files made from it by hand, and prints every answer. A line of the input is one file:
-// the base file by its letter (A, A with Many grids, with metaData of every kind, as Old version 220), what is printed (all calls,
-// cuts at every length, entries of every name, grids by names, numbers), the length it is cut to, and changes, each with place, width
-// and value. A line that begins with # is a comment. The input and what must be printed come from tools/refusals_file.py.
+// the letter of the base file (A; M, with 64 grids; D, with metadata of every kind; O, as version 220), what is printed (all calls, cuts
+// at every length, entries of every name, grids by names, numbers), the length that it is cut to, and up to three changes, each with
+// place, width and value. A line that begins with # is a comment. The input and what must be printed come from tools/refusals_file.py.
 //
-// Row 1 of the table, a file of over 2,147,483,647 bytes, stands in the contracts alone: no such buffer can be lent.
+// Row 1 of the table, over 2,147,483,647 bytes, stands in the contracts alone: no such buffer can be lent.
 mod build;
 mod show;
 
@@ -36,6 +36,7 @@ fn word(line: &[u8], k: usize) -> u64 {
     value
 }
 
+// The change whose three words begin with the one numbered k.
 fn change(f: &mut [u8], line: &[u8], k: usize) {
     if 100 < k {
         return;
@@ -45,7 +46,7 @@ fn change(f: &mut [u8], line: &[u8], k: usize) {
     build::put_number(f, at, width, word(line, k + 2));
 }
 
-// The line's file, made in a cleared buffer.
+// The file of a line, in a buffer of zeros.
 fn make(f: &mut [u8], base: u8, line: &[u8]) {
     build::fill(f, base);
     change(f, line, 3);
@@ -53,6 +54,7 @@ fn make(f: &mut [u8], base: u8, line: &[u8]) {
     change(f, line, 9);
 }
 
+// All names that the entries of D have.
 fn entries(s: &[u8]) {
     report::text(b"\n");
     show::entries(s, b"s");
@@ -97,9 +99,11 @@ fn numbers(s: &[u8], long: &[u8]) {
     report::text(b"\n");
 }
 
+// A line, and what is printed of its file.
 fn answer(line: &[u8]) {
     report::text(line);
     if line.len() < 3 {
+        report::text(b"\n");
         return;
     }
     if line[0] == b'#' {

@@ -1,20 +1,19 @@
 // Opens case A and its variants and fills their leaf. What must be printed comes from tools/refusals_grid.py, which follows document 01.
-mod build;
 mod show;
 
 // A with one change.
 fn a(name: &[u8], at: usize, bytes: &[u8]) {
     let mut f = [0u8; 9637];
-    build::put_a(&mut f);
-    build::put(&mut f, at, bytes);
+    grid_build::put_a(&mut f);
+    grid_build::put(&mut f, at, bytes);
     report::text(name);
-    show::answers(&f);
+    grid_report::answers(&f);
 }
 
 // A itself.
 fn whole() {
     let mut f = [0u8; 9637];
-    build::put_a(&mut f);
+    grid_build::put_a(&mut f);
     show::absent(&f);
     show::fills(&f);
 }
@@ -116,32 +115,32 @@ fn blocks() {
 // A root more, with no child and an active place 0: its origin at 9568, its value at 17773, the leaf's block at 17777.
 fn two_roots(name: &[u8], origin: &[u8]) {
     let mut f = [0u8; 17846];
-    build::put_a(&mut f);
-    build::put(&mut f, 102, b"\x71\x45");
-    build::put(&mut f, 270, b"\x02");
-    build::put(&mut f, 9568, b"\0\0\0\0\0\0\0\0\0\0\0\0\0");
-    build::put(&mut f, 9568, origin);
-    build::put(&mut f, 9632, b"\0\0\0\0\0");
-    build::put(&mut f, 13676, b"\x01");
-    build::put(&mut f, 17773, b"\0\0\x40\x40");
-    build::put(&mut f, 17786, b"\x04");
-    build::put(&mut f, 17842, b"\0\0\x80\x3f");
+    grid_build::put_a(&mut f);
+    grid_build::put(&mut f, 102, b"\x71\x45");
+    grid_build::put(&mut f, 270, b"\x02");
+    grid_build::put(&mut f, 9568, b"\0\0\0\0\0\0\0\0\0\0\0\0\0");
+    grid_build::put(&mut f, 9568, origin);
+    grid_build::put(&mut f, 9632, b"\0\0\0\0\0");
+    grid_build::put(&mut f, 13676, b"\x01");
+    grid_build::put(&mut f, 17773, b"\0\0\x40\x40");
+    grid_build::put(&mut f, 17786, b"\x04");
+    grid_build::put(&mut f, 17842, b"\0\0\x80\x3f");
     report::text(name);
-    show::answers(&f);
+    grid_report::answers(&f);
 }
 
 // Every cut from 118 on of A with one change. The end is at 118, and for cuts of the topology the block too, as a position past the cut's end
 // is a refusal 9.
 fn cut(name: &[u8], block: u64, at: usize, bytes: &[u8]) {
     let mut f = [0u8; 9637];
-    build::put_a(&mut f);
-    build::put_number(&mut f, 110, 8, 118);
-    build::put_number(&mut f, 102, 8, block);
-    build::put(&mut f, at, bytes);
+    grid_build::put_a(&mut f);
+    grid_build::put_number(&mut f, 110, 8, 118);
+    grid_build::put_number(&mut f, 102, 8, block);
+    grid_build::put(&mut f, at, bytes);
     report::text(b"cut, block at");
     grid_report::number(block);
     report::text(name);
-    show::cuts(&f, 118);
+    grid_report::cuts(&f, 118);
 }
 
 fn cuts() {
@@ -155,89 +154,6 @@ fn cuts() {
     cut(b", origin x -65535:", 118, 274, b"\x01\0");
     cut(b", 5-node, both at 1057:", 118, 4514, b"\x02");
     cut(b", 4-node byte 7:", 118, 9503, b"\x07");
-}
-
-// One leaf of each form: flags, the width's metadata, and the bytes that 5-node and 4-node have after their masks.
-fn form(flags: u64, metadata: &[u8], rest5: usize, rest4: usize, byte: u64) {
-    let mut f = [0u8; 160000];
-    let p = build::put_file(&mut f, flags, metadata, rest5, rest4);
-    build::put_noise(&mut f, p);
-    build::put_number(&mut f, p, 1, byte);
-    report::text(b"leaf byte");
-    grid_report::number(byte);
-    show::answers(&f);
-}
-
-fn forms(name: &[u8], flags: u64, metadata: &[u8], rest5: usize, rest4: usize) {
-    report::text(name);
-    report::text(b"\n");
-    for byte in 0..8 {
-        form(flags, metadata, rest5, rest4, byte);
-    }
-}
-
-fn all_forms() {
-    forms(b"flags 2, width 4", 2, b"\0\0\0\0", 1, 1);
-    forms(b"flags 0, width 4", 0, b"\0\0\0\0", 131073, 16385);
-    forms(
-        b"flags 2, width 2",
-        2,
-        b"\x01\0\0\0\x16\0\0\0is_saved_as_half_float\x04\0\0\0bool\x01\0\0\0\x01",
-        1,
-        1,
-    );
-    forms(
-        b"flags 0, width 2",
-        0,
-        b"\x01\0\0\0\x16\0\0\0is_saved_as_half_float\x04\0\0\0bool\x01\0\0\0\x01",
-        65537,
-        8193,
-    );
-    forms(
-        b"flags 2, half entry false",
-        2,
-        b"\x01\0\0\0\x16\0\0\0is_saved_as_half_float\x04\0\0\0bool\x01\0\0\0\0",
-        1,
-        1,
-    );
-}
-
-// Version 220 with one change.
-fn old(name: &[u8], at: usize, bytes: &[u8]) {
-    let mut f = [0u8; 159136];
-    build::put_old(&mut f);
-    build::put(&mut f, at, bytes);
-    report::text(name);
-    show::answers(&f);
-}
-
-fn old_rows() {
-    old(b"version 220", 0, b"");
-    old(b"version 221", 8, b"\xdd");
-    old(b"220, packed", 21, b"\x01");
-    old(b"220, both at 1057", 4511, b"\x02");
-    old(b"220, block mask empty", 157020, b"\0");
-    old(b"220, block origin x", 157075, b"\xf0");
-    old(b"220, block origin z", 157083, b"\0");
-    old(b"220, buffers 2", 157087, b"\x02");
-    old(b"220, root origin x -65536", 271, b"\0\0");
-}
-
-// The root at an extreme origin, and the block with the leaf's.
-fn old_extreme(name: &[u8], root: &[u8], leaf: &[u8]) {
-    let mut f = [0u8; 159136];
-    build::put_old(&mut f);
-    build::put(&mut f, 271, root);
-    build::put(&mut f, 157075, leaf);
-    report::text(name);
-    show::answers(&f);
-}
-
-fn old_cuts() {
-    let mut f = [0u8; 159136];
-    build::put_old(&mut f);
-    report::text(b"version 220 cut from 157000:");
-    show::cuts(&f, 157000);
 }
 
 fn rows() {
@@ -255,24 +171,7 @@ fn rows() {
     );
 }
 
-fn old_all() {
-    old_rows();
-    old_extreme(
-        b"220, origin 2147479552",
-        b"\0\xf0\xff\x7f\0\xf0\xff\x7f\0\xf0\xff\x7f",
-        b"\xf8\xf0\xff\x7f\xf8\xf0\xff\x7f\xf8\xf0\xff\x7f",
-    );
-    old_extreme(
-        b"220, origin -2147483648",
-        b"\0\0\0\x80\0\0\0\x80\0\0\0\x80",
-        b"\xf8\0\0\x80\xf8\0\0\x80\xf8\0\0\x80",
-    );
-    old_cuts();
-}
-
 fn main() {
     rows();
     cuts();
-    all_forms();
-    old_all();
 }

@@ -1,18 +1,4 @@
-// What is printed of the answers.
-use fields::Span;
-use grid::GridAnswer;
-
-// By the name "d", by the number 0, and the fill of leaf 0.
-pub fn answers(s: &[u8]) {
-    report::text(b": named");
-    grid_report::answer(grid::open_grid_named(s, b"d"));
-    report::text(b", numbered");
-    grid_report::answer(grid::open_grid_numbered(s, 0));
-    report::text(b", leaf");
-    grid_report::leaf(s, 0, 0);
-    report::text(b"\n");
-}
-
+// What is printed of case A itself.
 // An absent name and an absent number.
 pub fn absent(s: &[u8]) {
     report::text(b"named e");
@@ -57,38 +43,4 @@ pub fn fills(s: &[u8]) {
     leaf_named(s, b"e", 0);
     leaf_511(s);
     leaf_513(s);
-}
-
-// The number that opening grid 0 of the first n bytes refuses with; 0 where it does not.
-fn refusal(s: &[u8], n: usize) -> u32 {
-    match grid::open_grid_numbered(fields::bytes_of(s, Span { start: 0, len: n }), 0) {
-        GridAnswer::Refused(k) => k,
-        GridAnswer::Grid(_) => 0,
-    }
-}
-
-fn run_of(first: usize, end: usize, k: u32) {
-    if first < end {
-        grid_report::number((end - first) as u64);
-        report::text(b" of");
-        grid_report::number(k as u64);
-    }
-}
-
-// The numbers for the file cut to each length from `from` on, as runs: how many cuts in a row, and their number.
-pub fn cuts(s: &[u8], from: usize) {
-    let mut last = 0;
-    let mut first = from;
-    for n in from..s.len() {
-        let k = refusal(s, n);
-        if k != last {
-            run_of(first, n, last);
-            last = k;
-            first = n;
-        }
-    }
-    run_of(first, s.len(), last);
-    report::text(b", whole");
-    grid_report::number(refusal(s, s.len()) as u64);
-    report::text(b"\n");
 }

@@ -1,13 +1,12 @@
+-- The index stays within the text, and a name starts no later than it ends.
 use borrow.Author.Needs.{needs}
 use mathlib.Core.Logic.{⊎-elim}
 use native.Mathlib.Omega.{arith}
 use mathlib.Core.Path.{_≡_}
-use Prim.Native.Nat.{_≤_, _<_, _-_}
-use lib.ListN.{length, length-set}
+use Prim.Native.Nat.{_≤_, _-_}
+use lib.ListN.{length}
 use Rattle.openvdb_files.proofs.entries.Statement.{statement}
 use Rattle.openvdb_files.proofs.entries.Tie as tie
-use Rattle.fields.proofs.bytes_of.Reads as bytes-of-reads
-use Rattle.openvdb_files.proofs.entry.Reads as entry-reads
 
 abbrev Inv-loop : tie.InvT-loop
 Inv-loop s scope grid names first₀ i₀ i-end first i = (i ≤ i-end) × (i-end ≡ length names) × (first ≤ i)

@@ -1,11 +1,8 @@
+-- The numbers stay below the count.
 use borrow.Author.Needs.{needs}
-use native.Mathlib.Omega.{arith}
-use mathlib.Core.Path.{_≡_}
-use Prim.Native.Nat.{_≤_, _<_, _-_}
-use lib.ListN.{length, length-set}
+use Prim.Native.Nat.{_≤_, _-_}
 use Rattle.openvdb_files.proofs.grids.Statement.{statement}
 use Rattle.openvdb_files.proofs.grids.Tie as tie
-use Rattle.openvdb_files.proofs.grid.Reads as grid-reads
 
 abbrev Inv-loop : tie.InvT-loop
 Inv-loop s count names i₀ i = (i ≤ count)

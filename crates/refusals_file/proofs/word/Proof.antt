@@ -1,12 +1,12 @@
+-- The index stays within the line, and the words are no more than the bytes passed.
 use borrow.Author.Needs.{needs}
 use mathlib.Core.Logic.{⊎-elim}
 use native.Mathlib.Omega.{arith}
 use mathlib.Core.Path.{_≡_}
-use Prim.Native.Nat.{_≤_, _<_, _-_}
-use lib.ListN.{length, length-set}
+use Prim.Native.Nat.{_≤_, _-_}
+use lib.ListN.{length}
 use Rattle.refusals_file.proofs.word.Statement.{statement}
 use Rattle.refusals_file.proofs.word.Tie as tie
-use Rattle.refusals_file.proofs.digit.Reads as digit-reads
 
 abbrev Inv-loop : tie.InvT-loop
 Inv-loop line k n₀ value₀ i₀ i-end n value i = (i ≤ i-end) × (i-end ≡ length line) × (n ≤ i)

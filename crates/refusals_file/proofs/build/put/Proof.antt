@@ -1,7 +1,8 @@
+-- The copy stays within both slices.
 use borrow.Author.Needs.{needs}
 use native.Mathlib.Omega.{arith}
 use mathlib.Core.Path.{_≡_}
-use Prim.Native.Nat.{_≤_, _<_, _-_}
+use Prim.Native.Nat.{_≤_, _-_}
 use lib.ListN.{length, length-set}
 use Rattle.refusals_file.proofs.build.put.Statement.{statement}
 use Rattle.refusals_file.proofs.build.put.Tie as tie

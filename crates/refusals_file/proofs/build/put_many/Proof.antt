@@ -1,12 +1,10 @@
+-- The numbers fit, and the buffer keeps its length.
 use borrow.Author.Needs.{needs}
-use native.Mathlib.Omega.{arith}
 use mathlib.Core.Path.{_≡_}
-use Prim.Native.Nat.{_≤_, _<_, _-_}
-use lib.ListN.{length, length-set}
+use Prim.Native.Nat.{_≤_, _-_}
+use lib.ListN.{length}
 use Rattle.refusals_file.proofs.build.put_many.Statement.{statement}
 use Rattle.refusals_file.proofs.build.put_many.Tie as tie
-use Rattle.refusals_file.proofs.build.put.Reads as put-reads
-use Rattle.refusals_file.proofs.build.put_number.Reads as put-number-reads
 
 abbrev Inv-loop : tie.InvT-loop
 Inv-loop f₀ i₀ t6 f i = (i ≤ 65) × (length f ≡ length f₀)

@@ -1,11 +1,10 @@
+-- The loop ends, and the buffer keeps its length.
 use borrow.Author.Needs.{needs}
-use native.Mathlib.Omega.{arith}
 use mathlib.Core.Path.{_≡_}
-use Prim.Native.Nat.{_≤_, _<_, _-_}
-use lib.ListN.{length, length-set}
+use Prim.Native.Nat.{_≤_, _-_}
+use lib.ListN.{length}
 use Rattle.refusals_file.proofs.build.put_number.Statement.{statement}
 use Rattle.refusals_file.proofs.build.put_number.Tie as tie
-use Rattle.refusals_file.proofs.build.put.Reads as put-reads
 
 abbrev Inv-loop : tie.InvT-loop
 Inv-loop f₀ at width n p₀ left₀ i₀ f p left i = (i ≤ width) × (length f ≡ length f₀)

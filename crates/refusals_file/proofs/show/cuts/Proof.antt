@@ -1,14 +1,8 @@
+-- The cuts stay below the length.
 use borrow.Author.Needs.{needs}
-use native.Mathlib.Omega.{arith}
-use mathlib.Core.Path.{_≡_}
-use Prim.Native.Nat.{_≤_, _<_, _-_}
-use lib.ListN.{length, length-set}
+use Prim.Native.Nat.{_≤_, _-_}
 use Rattle.refusals_file.proofs.show.cuts.Statement.{statement}
 use Rattle.refusals_file.proofs.show.cuts.Tie as tie
-use Rattle.refusals_file.proofs.show.cut.Reads as cut-reads
-use Rattle.refusals_file.proofs.show.refusal.Reads as refusal-reads
-use Rattle.refusals_file.proofs.show.run_of.Reads as run-of-reads
-use Rattle.report.proofs.text.Reads as text-reads
 
 abbrev Inv-loop : tie.InvT-loop
 Inv-loop s last₀ first₀ n₀ t6 n-end last first n = (n ≤ n-end)

@@ -3,11 +3,11 @@ use native.Mathlib.Omega.{arith}
 use mathlib.Core.Path.{_≡_}
 use Prim.Native.Nat.{_≤_, _<_, _-_}
 use lib.ListN.{length, length-set}
-use Rattle.refusals_grid.proofs.show.cuts.Statement.{statement}
-use Rattle.refusals_grid.proofs.show.cuts.Tie as tie
+use Rattle.grid_report.proofs.cuts.Statement.{statement}
+use Rattle.grid_report.proofs.cuts.Tie as tie
 use Rattle.grid_report.proofs.number.Reads as number-reads
-use Rattle.refusals_grid.proofs.show.refusal.Reads as refusal-reads
-use Rattle.refusals_grid.proofs.show.run_of.Reads as run-of-reads
+use Rattle.grid_report.proofs.refusal.Reads as refusal-reads
+use Rattle.grid_report.proofs.run_of.Reads as run-of-reads
 use Rattle.report.proofs.text.Reads as text-reads
 
 abbrev Inv-loop : tie.InvT-loop

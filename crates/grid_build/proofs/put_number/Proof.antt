@@ -3,9 +3,9 @@ use native.Mathlib.Omega.{arith}
 use mathlib.Core.Path.{_≡_}
 use Prim.Native.Nat.{_≤_, _<_, _-_}
 use lib.ListN.{length, length-set}
-use Rattle.refusals_grid.proofs.build.put_number.Statement.{statement}
-use Rattle.refusals_grid.proofs.build.put_number.Tie as tie
-use Rattle.refusals_grid.proofs.build.put.Reads as put-reads
+use Rattle.grid_build.proofs.put_number.Statement.{statement}
+use Rattle.grid_build.proofs.put_number.Tie as tie
+use Rattle.grid_build.proofs.put.Reads as put-reads
 
 abbrev Inv-loop : tie.InvT-loop
 Inv-loop f₀ at width n p₀ left₀ i₀ f p left i = (i ≤ width) × (length f ≡ length f₀)

@@ -3,11 +3,11 @@ use native.Mathlib.Omega.{arith}
 use mathlib.Core.Path.{_≡_}
 use Prim.Native.Nat.{_≤_, _<_, _-_}
 use lib.ListN.{length, length-set}
-use Rattle.refusals_grid.proofs.build.put_noise.Statement.{statement}
-use Rattle.refusals_grid.proofs.build.put_noise.Tie as tie
-use Rattle.refusals_grid.proofs.build.after.Reads as after-reads
-use Rattle.refusals_grid.proofs.build.noise.Reads as noise-reads
-use Rattle.refusals_grid.proofs.build.put_number.Reads as put-number-reads
+use Rattle.grid_build.proofs.put_noise.Statement.{statement}
+use Rattle.grid_build.proofs.put_noise.Tie as tie
+use Rattle.grid_build.proofs.after.Reads as after-reads
+use Rattle.grid_build.proofs.noise.Reads as noise-reads
+use Rattle.grid_build.proofs.put_number.Reads as put-number-reads
 
 abbrev Inv-loop : tie.InvT-loop
 Inv-loop f₀ at i₀ f i = (i ≤ 2200) × (length f ≡ length f₀)

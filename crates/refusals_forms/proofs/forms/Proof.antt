@@ -3,9 +3,9 @@ use native.Mathlib.Omega.{arith}
 use mathlib.Core.Path.{_≡_}
 use Prim.Native.Nat.{_≤_, _<_, _-_}
 use lib.ListN.{length, length-set}
-use Rattle.refusals_grid.proofs.forms.Statement.{statement}
-use Rattle.refusals_grid.proofs.forms.Tie as tie
-use Rattle.refusals_grid.proofs.form.Reads as form-reads
+use Rattle.refusals_forms.proofs.forms.Statement.{statement}
+use Rattle.refusals_forms.proofs.forms.Tie as tie
+use Rattle.refusals_forms.proofs.form.Reads as form-reads
 use Rattle.report.proofs.text.Reads as text-reads
 
 abbrev Inv-loop : tie.InvT-loop

@@ -3,8 +3,8 @@ use native.Mathlib.Omega.{arith}
 use mathlib.Core.Path.{_≡_}
 use Prim.Native.Nat.{_≤_, _<_, _-_}
 use lib.ListN.{length, length-set}
-use Rattle.refusals_grid.proofs.build.put.Statement.{statement}
-use Rattle.refusals_grid.proofs.build.put.Tie as tie
+use Rattle.grid_build.proofs.put.Statement.{statement}
+use Rattle.grid_build.proofs.put.Tie as tie
 
 abbrev Inv-loop : tie.InvT-loop
 Inv-loop f₀ at bytes p₀ i₀ i-end f p i = (i ≤ i-end) × (i-end ≡ length bytes) × (length f ≡ length f₀)
