@@ -1,84 +1,44 @@
 -- Laws of the definitions, by which the functions' proofs go.
-use mathlib.Core.Path.{_≡_, refl, sym, ap, _∙_}
+use mathlib.Core.Path.{_≡_, refl, ap, _∙_}
 use mathlib.Core.List.{List, [], _∷_, _++_}
 use mathlib.Core.Option.{Option, none, some}
-use mathlib.Core.Bool.{Bool, true, false, _&&_, _||_, not}
+use mathlib.Core.Bool.{Bool, true, false, _&&_, not}
 use Prim.Native.Nat.{ℕ, suc, _+_, _-_, _≤_, _<_}
-use native.Mathlib.Numerals.{add-one}
 use native.Mathlib.Omega.{arith}
+use native.Mathlib.Numerals.{add-one}
 use lib.Dec.{leb}
-use lib.ListN.{length, getD}
-use lib.Seq.{slice, slice-cons, slice-empty}
+use lib.ListN.{length, getD, take, set, length-take, drop-of-length-le}
+use lib.Seq.{slice, drop-cons, getD-take, take-suc-set}
+use borrow.Author.Tests.{le-leb, lt-leb, leb-true}
+use Rattle.fields.specs.Parse.{Parse, got, fails, then, when, check}
 use Rattle.fields.specs.Fields.{bytesOf, sameBytes}
 use Rattle.fields.specs.declared.Span.{Span}
-use Rattle.fields.specs.Parse.{Parse, got, fails, then, when, check}
-use Rattle.fields.proofs.Laws.{then-got, then-fails, check-fails, then-then, Every, got-every, then-every, check-every}
+use Rattle.fields.proofs.Laws.{then-got, then-fails, check-passes, check-fails, then-then, told, Always, got-always, then-always, check-always}
 use Rattle.metadata.specs.Metadata.{latest}
-use Rattle.archive.specs.Answer.{Answer, gives, refuses, answer, with}
-use Rattle.archive.specs.Archive.{repeated, descriptor, descriptors, isAsked, gridsField, header, countField, file, File, Opened, openedWith, fileAsked, openFile}
+use Rattle.archive.specs.Answer.{Answer, gives, refuses, answer, with, present}
+use Rattle.archive.specs.Archive.{countField, header, repeated, descriptors, File, file, openFile, isAsked, AskedFile, askedOf, fileAsked}
+use Rattle.archive.specs.Inner.{nextField, gridsField}
 use Rattle.archive.specs.declared.ArchiveHeader.{ArchiveHeader}
-use Rattle.archive.specs.declared.GridDescriptor.{GridDescriptor}
 use Rattle.archive.specs.declared.Asked.{Asked}
-use borrow.Author.Tests.{le-leb, lt-leb, leb-true}
+use Rattle.archive.specs.declared.Asked.the-variants as A
+use Rattle.archive.specs.declared.GridDescriptor.{GridDescriptor}
+use Rattle.fields.proofs.Steps.{check-yes, check-no}
 
--- a number that is below a range, above it, in it
-pub below-range : (a b n : ℕ) → n < a → false ≡ (leb a n && leb n b)
-below-range a b n h = simp (lt-leb a n h)
+-- a check that a number is in a range, which is below it, above it, in it
+pub check-below : {A : Type 0} (a b n : ℕ) {k : ℕ} (p : Parse A) → n < a → fails k ≡ check (leb a n && leb n b) k p
+check-below a b n p h = check-no p refl (simp (lt-leb a n h))
 
-pub above-range : (a b n : ℕ) → a ≤ n → b < n → false ≡ (leb a n && leb n b)
-above-range a b n h k = simp (le-leb a n h, lt-leb n b k)
+pub check-above : {A : Type 0} (a b n : ℕ) {k : ℕ} (p : Parse A) → a ≤ n → b < n → fails k ≡ check (leb a n && leb n b) k p
+check-above a b n p h j = check-no p refl (simp (le-leb a n h, lt-leb n b j))
 
-pub in-range : (a b n : ℕ) → a ≤ n → n ≤ b → true ≡ (leb a n && leb n b)
-in-range a b n h k = simp (le-leb a n h, le-leb n b k)
+pub check-in : {A : Type 0} (a b n k : ℕ) {p x : Parse A} → a ≤ n → n ≤ b → x ≡ p → x ≡ check (leb a n && leb n b) k p
+check-in a b n k h j = check-yes k refl (simp (le-leb a n h, le-leb n b j))
 
--- a name among those from the k-th to the n-th: the k-th is it, or is not, or none is left
-pub repeated-here :
-    (s name : List ℕ) (ws : List Span) (k n : ℕ) (w : Span) → k < n → n ≤ length ws → true ≡ sameBytes (bytesOf s (getD ws k w)) name →
-    true ≡ repeated s name (slice k n ws)
-unfolding repeated
-repeated-here s name ws k n w h l e = rw (slice-cons k n ws w h l, ← e)
+pub ruleset ranges = (check-below, check-above, check-in)
 
-pub repeated-later :
-    (s name : List ℕ) (ws : List Span) (k n : ℕ) (w : Span) → k < n → n ≤ length ws → false ≡ sameBytes (bytesOf s (getD ws k w)) name →
-    repeated s name (slice (k + 1) n ws) ≡ repeated s name (slice k n ws)
-unfolding repeated
-repeated-later s name ws k n w h l e = rw (slice-cons k n ws w h l, add-one k, ← e)
-
-pub repeated-none : (s name : List ℕ) (ws : List Span) (k n : ℕ) → k ≡ n → false ≡ repeated s name (slice k n ws)
-unfolding repeated
-repeated-none s name ws k n e = rw (e, slice-empty n ws)
-
--- The descriptors that are left, i of count being passed: one more is read, its name is repeated, it is refused, or none is left.
-module _ (s : List ℕ) (h : ArchiveHeader) (asked : Asked) (name : List ℕ) (i count p : ℕ) (earlier : List Span) (best : Option GridDescriptor) where
-  pub grids-more :
-      (d : GridDescriptor) (q : ℕ) (later : List Span) (next : Option GridDescriptor) → i < count → got d q ≡ descriptor s h p →
-      false ≡ repeated s (bytesOf s (d .name)) earlier → later ≡ earlier ++ (d .name ∷ []) → next ≡ when (isAsked s asked name i d) (some d) best →
-      gridsField (count - (i + 1)) later (i + 1) s h asked name q next ≡ gridsField (count - i) earlier i s h asked name p best
-  unfolding gridsField descriptors latest then check
-  grids-more d q later next l e r x y =
-      let k : count - i ≡ suc (count - (i + 1)) = omega arith in
-      rw (k, x, y, add-one i, ← e, ← r)
-      (sym (then-then (descriptors (count - suc i) (earlier ++ (d .name ∷ [])) s h q) (λ ds n. got (d ∷ ds) n) (λ ds n. got (latest (isAsked s asked name) i ds best) n)))
-
-  pub grids-repeated :
-      (d : GridDescriptor) (q : ℕ) → i < count → got d q ≡ descriptor s h p → true ≡ repeated s (bytesOf s (d .name)) earlier →
-      fails 10 ≡ gridsField (count - i) earlier i s h asked name p best
-  unfolding gridsField descriptors
-  grids-repeated d q l e r =
-      let k : count - i ≡ suc (count - (i + 1)) = omega arith in
-      rw k (then-fails _ (then-got _ e (check-fails _ (ap not r))))
-
-  pub grids-fails : (k : ℕ) → i < count → fails k ≡ descriptor s h p → fails k ≡ gridsField (count - i) earlier i s h asked name p best
-  unfolding gridsField descriptors
-  grids-fails j l e =
-      let k : count - i ≡ suc (count - (i + 1)) = omega arith in
-      rw k (then-fails _ (then-fails _ e))
-
-  pub grids-none : count ≤ i → got best p ≡ gridsField (count - i) earlier i s h asked name p best
-  unfolding gridsField descriptors latest then
-  grids-none l =
-      let k : count - i ≡ 0 = omega arith in
-      rw k
+-- whether a grid is asked for, by the question, however that is known
+pub asked-is : {asked asked′ : Asked} (s name : List ℕ) (i : ℕ) (d : GridDescriptor) {x : Bool} → asked ≡ asked′ → x ≡ isAsked s asked′ name i d → x ≡ isAsked s asked name i d
+asked-is s name i d e h = rw e h
 
 -- The steps of an answer.
 pub with-gives : {A B : Type 0} {m : Answer A} (f : A → Answer B) {x : Answer B} {a : A} → gives a ≡ m → x ≡ f a → x ≡ with m f
@@ -89,6 +49,14 @@ pub with-refuses : {A B : Type 0} {m : Answer A} (f : A → Answer B) {k : ℕ} 
 unfolding with
 with-refuses f e = ap (λ (m : Answer _). with m f) e
 
+pub with-back : {A B : Type 0} (m : Answer A) (f : A → Answer B) {x : B} → gives x ≡ with m f → (a : A) × (gives a ≡ m) × (gives x ≡ f a)
+unfolding with
+with-back (gives a) f e = (a, refl, e)
+with-back (refuses k) f e = let z : _≡_ {A = ℕ} 0 1 = cc in absurd (omega arith)
+
+pub gives-same : {A : Type 0} {a b : A} → gives a ≡ gives b → a ≡ b
+gives-same e = cc
+
 -- a parse's answer
 pub answer-got : {A : Type 0} {m : Parse A} {a : A} {n : ℕ} → got a n ≡ m → gives a ≡ answer m
 unfolding answer
@@ -98,66 +66,136 @@ pub answer-fails : {A : Type 0} {m : Parse A} {k : ℕ} → fails k ≡ m → re
 unfolding answer
 answer-fails e = ap answer e
 
+pub answer-back : {A : Type 0} (m : Parse A) {x : A} → gives x ≡ answer m → (n : ℕ) × (got x n ≡ m)
+unfolding answer
+answer-back (got a n) e = (n, (let u = gives-same e in ap (λ (y : _). got y n) u))
+answer-back (fails k) e = let z : _≡_ {A = ℕ} 0 1 = cc in absurd (omega arith)
+
+-- As laws that `search` applies: a call's answer r, which says m, and of which it is known which answer v it is.
+pub with-by : {E A : Type 0} (says : E → Answer A) {B : Type 0} {m : Answer A} (f : A → Answer B) {x : Answer B} {r v : E} → says r ≡ m → r ≡ v → x ≡ with (says v) f → x ≡ with m f
+with-by says f h e k = k ∙ ap (λ (p : Answer _). with p f) (told says e h)
+
+pub answer-by :
+    {E A : Type 0} (says : E → Parse A) {B : Type 0} {m : Parse A} (f : A → Answer B) {x : Answer B} {r v : E} → says r ≡ m → r ≡ v → x ≡ with (answer (says v)) f →
+    x ≡ with (answer m) f
+answer-by says f h e k = k ∙ ap (λ (p : Parse _). with (answer p) f) (told says e h)
+
+pub with-present : {F A : Type 0} (says : F → Option A) {B : Type 0} (f : A → Answer B) {x : Answer B} {r v : F} → r ≡ v → x ≡ with (present (says v)) f → x ≡ with (present (says r)) f
+with-present says f e k = rw e k
+
+pub present-by : {F A : Type 0} (says : F → Option A) {x : Answer A} {r v : F} → r ≡ v → x ≡ present (says v) → x ≡ present (says r)
+present-by says e k = rw e k
+
+pub with-on : {A B : Type 0} (f : A → Answer B) {x : Answer B} {a : A} → x ≡ f a → x ≡ with (gives a) f
+with-on f k = with-gives f refl k
+
+pub with-stop : {A B : Type 0} (f : A → Answer B) {k : ℕ} → refuses k ≡ with (refuses k) f
+with-stop f = with-refuses f refl
+
+pub ruleset answers = (with-on, with-stop)
+
+-- a name among those from the k-th to the n-th of 64: the k-th is it, or is not, or none is left
+module _ (s name : List ℕ) (ws : List Span) (k n : ℕ) where
+  from-here : (w : Span) → k < n → k < 64 → length ws ≡ 64 → slice k n ws ≡ getD ws k w ∷ slice (suc k) n ws
+  from-here w h l j =
+      let e : k < length (take n ws) = rw (length-take n ws, j) (omega arith) in
+      drop-cons (take n ws) k w e ∙ ap (λ (a : Span). a ∷ slice (suc k) n ws) (getD-take n ws k w h)
+
+  pub repeated-here :
+      (w : Span) (t : Bool) → k < n → k < 64 → length ws ≡ 64 → t ≡ sameBytes (bytesOf s (getD ws k w)) name → t ≡ true → true ≡ repeated s name (slice k n ws)
+  unfolding repeated
+  repeated-here w t h l j e x = rw (from-here w h l j, ← e, x)
+
+  pub repeated-later :
+      (w : Span) (t : Bool) → k < n → k < 64 → length ws ≡ 64 → t ≡ sameBytes (bytesOf s (getD ws k w)) name → t ≡ false →
+      repeated s name (slice (k + 1) n ws) ≡ repeated s name (slice k n ws)
+  unfolding repeated
+  repeated-later w t h l j e x = rw (from-here w h l j, add-one k, ← e, x)
+
+  repeated-none : length (take n ws) ≤ k → false ≡ repeated s name (slice k n ws)
+  unfolding repeated
+  repeated-none h = rw (drop-of-length-le (take n ws) h)
+
+  pub repeated-end : n ≤ k → false ≡ repeated s name (slice k n ws)
+  repeated-end h = repeated-none (rw (length-take n ws) (omega arith))
+
+  pub repeated-past : length ws ≡ 64 → 64 ≤ k → false ≡ repeated s name (slice k n ws)
+  repeated-past e h = repeated-none (rw (length-take n ws, e) (omega arith))
+
+-- check 10, by what the name's bytes a are
+module _ (s : List ℕ) (ws : List Span) (w : Span) where
+  pub check-repeated : {a : List ℕ} {t : Bool} (p : Parse GridDescriptor) → t ≡ repeated s a ws → t ≡ true → a ≡ bytesOf s w → fails 10 ≡ check (not (repeated s (bytesOf s w) ws)) 10 p
+  check-repeated p h e k = check-fails p (rw (← k, ← h, e) refl)
+
+  pub check-new : {a : List ℕ} {t : Bool} {p x : Parse GridDescriptor} → t ≡ repeated s a ws → t ≡ false → a ≡ bytesOf s w → x ≡ p → x ≡ check (not (repeated s (bytesOf s w) ws)) 10 p
+  check-new h e k j = check-passes 10 (rw (← k, ← h, e) refl) j
+
+-- what follows a check is checked with it
+check-then : {A B : Type 0} (ok : Bool) (k : ℕ) (p : Parse A) (f : A → ℕ → Parse B) → then (check ok k p) f ≡ check ok k (then p f)
+unfolding then check
+check-then true k p f = refl
+check-then false k p f = refl
+
+-- The descriptors that are left, i of count being passed: one more is read, it is refused, or none is left.
+module _ (s : List ℕ) (h : ArchiveHeader) (asked : Asked) (name : List ℕ) (i : ℕ) (best : Option GridDescriptor) where
+  grids-step :
+      (k p : ℕ) (earlier : List Span) →
+      (then (nextField s h earlier p) λ d q. gridsField s h k (earlier ++ (d .name ∷ [])) (suc i) asked name (when (isAsked s asked name i d) (some d) best) q) ≡
+      gridsField s h (suc k) earlier i asked name best p
+  unfolding gridsField descriptors latest then
+  grids-step k p earlier = simp (then-then, check-then)
+
+  module _ (count p : ℕ) (names : List Span) where
+    pub grids-more :
+        (d : GridDescriptor) (q : ℕ) (found : Option GridDescriptor) → i < count → count ≤ 64 → length names ≡ 64 → got d q ≡ nextField s h (take i names) p →
+        found ≡ when (isAsked s asked name i d) (some d) best →
+        gridsField s h (count - (i + 1)) (take (i + 1) (set names i (d .name))) (i + 1) asked name found q ≡ gridsField s h (count - i) (take i names) i asked name best p
+    grids-more d q found l m j e z =
+        let k : count - i ≡ suc (count - (i + 1)) = omega arith in
+        rw (k, z, add-one i, take-suc-set names i (d .name) (omega arith)) (then-got _ e refl ∙ grids-step _ p (take i names))
+
+    pub grids-fails : (j : ℕ) → i < count → fails j ≡ nextField s h (take i names) p → fails j ≡ gridsField s h (count - i) (take i names) i asked name best p
+    grids-fails j l e =
+        let k : count - i ≡ suc (count - (i + 1)) = omega arith in
+        rw k (then-fails _ e ∙ grids-step _ p (take i names))
+
+    pub grids-none : count ≤ i → got best p ≡ gridsField s h (count - i) (take i names) i asked name best p
+    unfolding gridsField descriptors latest then
+    grids-none l =
+        let k : count - i ≡ 0 = omega arith in
+        rw k
+
+pub grids-all : (s : List ℕ) (h : ArchiveHeader) (asked : Asked) (name : List ℕ) (count at : ℕ) →
+    gridsField s h (count - 0) [] 0 asked name none at ≡ gridsField s h count [] 0 asked name none at
+grids-all s h asked name count at =
+    let e : count - 0 ≡ count = omega arith in
+    rw e
+
 -- a header that was read has at most 64 grids
-count-few : (s : List ℕ) (at : ℕ) → Every (λ n p. n ≤ 64) (countField s at)
-unfolding countField
-count-few s at = then-every _ _ _ λ n p e. check-every _ _ _ _ λ ok. got-every _ _ _ (leb-true n 64 ok)
-
-pub few-grids : (s : List ℕ) → Every (λ h p. h .«grid_count» ≤ 64) (header s)
-unfolding header
+pub few-grids : (s : List ℕ) → Always (λ h p. h .«grid_count» ≤ 64) (header s)
+unfolding header countField
 few-grids s =
-    check-every _ _ _ _ λ ok. then-every _ _ _ λ version p e. then-every _ _ _ λ major q e. then-every _ _ _ λ minor r e.
-    then-every _ _ _ λ one t e. then-every _ _ _ λ packed u e. then-every _ _ _ λ identity v e. then-every _ _ _ λ entries w e.
-    then-every _ _ _ λ count x e. got-every _ _ _ (count-few s w count x e)
+    check-always _ _ _ _ λ ok. then-always _ _ _ λ front p e. then-always _ _ _ λ identity q e. then-always _ _ _ λ entries r e.
+    then-always _ _ _ λ count n e. got-always _ _ _ (then-always (λ m p. m ≤ 64) _ _ (λ m p e. check-always _ _ _ _ λ ok. got-always _ _ _ (leb-true m 64 ok)) count n e)
 
--- The file is refused at its header, or at its descriptors, or opened.
-module _ (s : List ℕ) (asked : Asked) (name : List ℕ) where
-  pub header-refused : (k : ℕ) → fails k ≡ header s → refuses k ≡ fileAsked s asked name
-  unfolding fileAsked file
-  header-refused k e = with-refuses _ (answer-fails (then-fails _ e))
+-- a file in parts: its header, then its grids with the one that is asked for
+with-answer : {A B : Type 0} (g : A → B) (m : Parse A) → with (answer m) (λ a. gives (g a)) ≡ answer (then m λ a n. got (g a) n)
+unfolding with answer then
+with-answer g (got a n) = refl
+with-answer g (fails k) = refl
 
-  module _ (h : ArchiveHeader) (p : ℕ) (e : got h p ≡ header s) where
-    -- what the descriptors m give the header's file
-    after : Parse (List GridDescriptor) → Parse File
-    after m = then m λ ds q. got (record { header = h; grids = ds }) q
+pub in-parts :
+    (s : List ℕ) (asked : Asked) (name : List ℕ) {x : Answer AskedFile} →
+    x ≡ answer (then (header s) λ h p. then (gridsField s h (h .«grid_count») [] 0 asked name none p) λ f n. got (record { header = h; grid = f }) n) →
+    x ≡ fileAsked s asked name
+unfolding fileAsked file gridsField then
+in-parts s asked name h = simp (with-answer (askedOf s asked name), then-then) (simp then-then at h)
 
-    pub grids-refused : (k : ℕ) → fails k ≡ gridsField (h .«grid_count») [] 0 s h asked name p none → refuses k ≡ fileAsked s asked name
-    unfolding fileAsked file gridsField then answer with after
-    grids-refused k g = rw (← e) (go (descriptors (h .«grid_count») [] s h p) g)
-      where
-        go : (m : Parse (List GridDescriptor)) → fails k ≡ then m (λ ds n. got (latest (isAsked s asked name) 0 ds none) n) →
-            refuses k ≡ with (answer (after m)) (λ f. gives (openedWith s asked name f))
-        go (got ds n) x = cc
-        go (fails j) x = cc
-
-    pub opened :
-        (f : Option GridDescriptor) (n : ℕ) → got f n ≡ gridsField (h .«grid_count») [] 0 s h asked name p none →
-        gives (record { header = h; grid = f }) ≡ fileAsked s asked name
-    unfolding fileAsked file gridsField then answer with after
-    opened f n g = rw (← e) (go (descriptors (h .«grid_count») [] s h p) g)
-      where
-        go : (m : Parse (List GridDescriptor)) → got f n ≡ then m (λ ds n. got (latest (isAsked s asked name) 0 ds none) n) →
-            gives (record { header = h; grid = f }) ≡ with (answer (after m)) (λ f. gives (openedWith s asked name f))
-        go (got ds q) x =
-            let y : f ≡ latest (isAsked s asked name) 0 ds none = cc in
-            ap (λ (f : Option GridDescriptor). gives (record { header = h; grid = f })) y
-        go (fails j) x = cc
-
-  -- opening asks for no grid, and its answer is that of any question
-  pub open-gives : (o : Opened) → gives o ≡ fileAsked s asked name → gives (o .header) ≡ openFile s
-  unfolding fileAsked openFile with
-  open-gives o = go (answer (file s))
-    where
-      go : (m : Answer File) → gives o ≡ with m (λ f. gives (openedWith s asked name f)) → gives (o .header) ≡ with m (λ f. gives (f .header))
-      go (gives f) x =
-          let y : o ≡ openedWith s asked name f = cc in
-          ap (λ (o : Opened). gives (o .header)) y
-      go (refuses k) x = cc
-
-  pub open-refuses : (k : ℕ) → refuses k ≡ fileAsked s asked name → refuses k ≡ openFile s
-  unfolding fileAsked openFile with
-  open-refuses k = go (answer (file s))
-    where
-      go : (m : Answer File) → refuses k ≡ with m (λ f. gives (openedWith s asked name f)) → refuses k ≡ with m (λ f. gives (f .header))
-      go (gives f) x = cc
-      go (refuses j) x = cc
+-- opening asks for no grid
+pub open-by : (s : List ℕ) {x : Answer ArchiveHeader} → x ≡ with (fileAsked s A.Nothing []) (λ o. gives (o .header)) → x ≡ openFile s
+unfolding fileAsked openFile with
+open-by s h = h ∙ go (answer (file s))
+  where
+    go : (m : Answer File) → with (with m λ f. gives (askedOf s A.Nothing [] f)) (λ o. gives (o .header)) ≡ with m (λ f. gives (f .header))
+    go (gives f) = refl
+    go (refuses k) = refl

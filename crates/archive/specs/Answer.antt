@@ -1,4 +1,4 @@
--- An answer to a caller: a value, or the number of the check that refused (document 01, section 8: "Only the number is returned").
+-- An answer to a caller: a value, or the number of the check that refused (section 8).
 use Prim.Native.Nat.{ℕ}
 use mathlib.Core.Option.{Option, none, some}
 use Rattle.fields.specs.Parse.{Parse, got, fails}
@@ -17,7 +17,7 @@ unfoldable pub with : {A B : Type 0} → Answer A → (A → Answer B) → Answe
 with (gives a) f = f a
 with (refuses k) f = refuses k
 
--- "an absent name or number is 11"
+-- check 11: what is asked for is there
 unfoldable pub present : {A : Type 0} → Option A → Answer A
 present (some a) = gives a
 present none = refuses 11

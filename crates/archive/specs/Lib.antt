@@ -1,3 +1,4 @@
 pub mod Answer
 pub mod Archive
 pub mod Answers
+pub mod Inner

@@ -1,15 +1,17 @@
-// Document 01, section 2: header, descriptors, and the answers by name and by number.
+// Section 2 of document 01: header, descriptors, and the answers by name and by number.
 ghost use mathlib.Core.Path.{_≡_};
 ghost use mathlib.Core.Option.{some, none};
 ghost use Prim.Native.Nat.{_≤_, _<_};
 ghost use mathlib.Core.List.{[]};
 ghost use lib.ListN.{take};
-ghost use Rattle.fields.specs.Parse.{then, got, when};
-ghost use Rattle.archive.specs.Archive.{versionField, offsetsField, packedField, countField, header, positionField, flagsField, descriptor};
-ghost use Rattle.archive.specs.Archive.{repeated, isAsked, gridsField, fileAsked, openFile, gridAsked, gridNamed, gridNumbered};
+ghost use Rattle.fields.specs.Parse.{when};
+ghost use Rattle.fields.specs.Fields.{ascii};
+ghost use Rattle.metadata.specs.Metadata.{lookup};
+ghost use Rattle.metadata.specs.Inner.{saysFoundEntry, saysMetadata};
+ghost use Rattle.archive.specs.Archive.{magicField, versionField, offsetsField, packedField, frontField, countField, header, namesField, positionField, positionsField, flagsField, halfBy, halfEntry, descriptor, repeated, isAsked, fileAsked, openFile, gridAsked, gridNamed, gridNumbered};
 ghost use Rattle.archive.specs.Archive.{entryAt, fileEntry, gridEntry, gridEntryNamed, gridEntryNumbered};
-ghost use Rattle.archive.specs.Answers.{saysNumber, refusalOf, saysPacked, saysHeader, saysPosition, positionRefusal, saysDescriptor, saysGrid};
-ghost use Rattle.archive.specs.Answers.{saysGrids, saysFile, saysHeaderAnswer, saysGridAnswer, saysEntryAnswer};
+ghost use Rattle.archive.specs.Inner.{saysMagic, saysNumber, saysPacked, saysFront, saysHeader, saysNames, saysPosition, saysPositions, frontEndField, saysDescriptor, nextField, saysFoundGrid, gridsField, saysGrids, saysFile};
+ghost use Rattle.archive.specs.Answers.{saysHeaderAnswer, saysDescriptorAnswer, saysEntryAnswer};
 use fields::Span;
 use fields::SpanField;
 use fields::U8Field;
@@ -18,6 +20,14 @@ use fields::U64Field;
 use metadata::FoundEntry;
 use metadata::MetadataField;
 use metadata::MetadataValue;
+
+// What stands before the identity: the version, the library's two numbers, and whether the file is packed.
+pub struct Front {
+    pub version: u32,
+    pub major: u32,
+    pub minor: u32,
+    pub packed: bool,
+}
 
 // What stands before the descriptors; meta_pos is where the file's metadata starts.
 pub struct ArchiveHeader {
@@ -31,6 +41,25 @@ pub struct ArchiveHeader {
     pub grid_count: u32,
 }
 
+// A descriptor's names and positions.
+pub struct GridNames {
+    pub name: Span,
+    pub grid_type: Span,
+    pub instance_parent: Span,
+}
+
+pub struct GridPositions {
+    pub grid_pos: usize,
+    pub block_pos: usize,
+    pub end_pos: usize,
+}
+
+// What the entry that tells of halves says, if it is there and a bool.
+pub enum HalfEntry {
+    Says(bool),
+    Nothing,
+}
+
 // A grid's descriptor with its flags; meta_pos is where its metadata starts, tree_pos where what follows it starts.
 pub struct GridDescriptor {
     pub name: Span,
@@ -40,11 +69,17 @@ pub struct GridDescriptor {
     pub block_pos: usize,
     pub end_pos: usize,
     pub compression: u32,
+    pub half: HalfEntry,
     pub meta_pos: usize,
     pub tree_pos: usize,
 }
 
-// A number that passed its check, with the position after it, or the check that failed.
+// The answers: what is read with the position after it, or the number of the check that failed.
+pub enum MagicField {
+    Got(usize),
+    Refused(u32),
+}
+
 pub enum NumberField {
     Got(u32, usize),
     Refused(u32),
@@ -55,13 +90,28 @@ pub enum PackedField {
     Past,
 }
 
+pub enum FrontField {
+    Got(Front, usize),
+    Refused(u32),
+}
+
 pub enum HeaderField {
     Got(ArchiveHeader, usize),
     Refused(u32),
 }
 
+pub enum NamesField {
+    Got(GridNames, usize),
+    Past,
+}
+
 pub enum PositionField {
     Got(usize, usize),
+    Refused(u32),
+}
+
+pub enum PositionsField {
+    Got(GridPositions, usize),
     Refused(u32),
 }
 
@@ -98,8 +148,8 @@ pub enum HeaderAnswer {
     Refused(u32),
 }
 
-pub enum GridAnswer {
-    Grid(GridDescriptor),
+pub enum DescriptorAnswer {
+    Descriptor(GridDescriptor),
     Refused(u32),
 }
 
@@ -108,148 +158,218 @@ pub enum EntryAnswer {
     Refused(u32),
 }
 
-pub fn read_version(s: &[u8]) -> NumberField
-    ensures { λ r. ⌜ saysNumber r ≡ versionField (now (s .entry)) ⌝ }
+// The eight bytes that a file starts with, check 3.
+pub fn read_magic(s: &[u8], at: usize) -> MagicField
+    ensures { λ r. ⌜ saysMagic r ≡ magicField (now (s .entry)) at ⌝ }
 {
-    let SpanField::Got(m, p) = fields::read_bytes(s, 0, 8) else {
-        return NumberField::Refused(2);
-    };
-    if !fields::same_bytes(fields::bytes_of(s, m), b" BDV\0\0\0\0") {
-        return NumberField::Refused(3);
+    match fields::read_bytes(s, at, 8) {
+        SpanField::Past => MagicField::Refused(2),
+        SpanField::Got(m, p) => {
+            if metadata::has_bytes(s, m, b" BDV\0\0\0\0") {
+                return MagicField::Got(p);
+            }
+            MagicField::Refused(3)
+        }
     }
-    let U32Field::Got(v, q) = fields::read_u32(s, p) else {
-        return NumberField::Refused(2);
-    };
-    if v < 220 {
-        return NumberField::Refused(4);
-    }
-    if 224 < v {
-        return NumberField::Refused(4);
-    }
-    NumberField::Got(v, q)
 }
 
-fn wide(b: u8) -> u32
-    ensures { λ r. ⌜ r ≡ b ⌝ }
+// The version, check 4.
+pub fn read_version(s: &[u8], at: usize) -> NumberField
+    ensures { λ r. ⌜ saysNumber r ≡ versionField (now (s .entry)) at ⌝ }
 {
-    b as u32
+    match fields::read_u32(s, at) {
+        U32Field::Past => NumberField::Refused(2),
+        U32Field::Got(v, p) => {
+            if v < 220 {
+                return NumberField::Refused(4);
+            }
+            if 224 < v {
+                return NumberField::Refused(4);
+            }
+            NumberField::Got(v, p)
+        }
+    }
 }
 
+// The offsets byte, check 5.
 pub fn read_offsets(s: &[u8], at: usize) -> NumberField
     ensures { λ r. ⌜ saysNumber r ≡ offsetsField (now (s .entry)) at ⌝ }
 {
-    let U8Field::Got(b, p) = fields::read_u8(s, at) else {
-        return NumberField::Refused(2);
-    };
-    if b != 1 {
-        return NumberField::Refused(5);
+    match fields::read_u8(s, at) {
+        U8Field::Past => NumberField::Refused(2),
+        U8Field::Got(b, p) => {
+            if b != 1 {
+                return NumberField::Refused(5);
+            }
+            NumberField::Got(b as u32, p)
+        }
     }
-    NumberField::Got(wide(b), p)
 }
 
+// Whether the file is packed, which a byte says before version 222.
 pub fn read_packed(s: &[u8], version: u32, at: usize) -> PackedField
     ensures { λ r. ⌜ saysPacked r ≡ packedField (now (s .entry)) version at ⌝ }
 {
     if 222 <= version {
         return PackedField::Got(false, at);
     }
-    let U8Field::Got(b, p) = fields::read_u8(s, at) else {
-        return PackedField::Past;
-    };
-    PackedField::Got(b != 0, p)
+    match fields::read_u8(s, at) {
+        U8Field::Past => PackedField::Past,
+        U8Field::Got(b, p) => PackedField::Got(b != 0, p),
+    }
 }
 
+// The end of what stands before the identity, the offsets byte and the packed byte; what was read before them is handed over.
+fn read_front_end(s: &[u8], version: u32, major: u32, minor: u32, at: usize) -> FrontField
+    ensures { λ r. ⌜ saysFront r ≡ frontEndField (now (s .entry)) version major minor at ⌝ }
+{
+    match read_offsets(s, at) {
+        NumberField::Refused(k) => FrontField::Refused(k),
+        NumberField::Got(_, t) => match read_packed(s, version, t) {
+            PackedField::Past => FrontField::Refused(2),
+            PackedField::Got(packed, n) => {
+                let front = Front {
+                    version,
+                    major,
+                    minor,
+                    packed,
+                };
+                FrontField::Got(front, n)
+            }
+        },
+    }
+}
+
+// What stands before the identity.
+pub fn read_front(s: &[u8], at: usize) -> FrontField
+    ensures { λ r. ⌜ saysFront r ≡ frontField (now (s .entry)) at ⌝ }
+{
+    match read_magic(s, at) {
+        MagicField::Refused(k) => FrontField::Refused(k),
+        MagicField::Got(o) => match read_version(s, o) {
+            NumberField::Refused(k) => FrontField::Refused(k),
+            NumberField::Got(version, p) => match fields::read_u32(s, p) {
+                U32Field::Past => FrontField::Refused(2),
+                U32Field::Got(major, q) => match fields::read_u32(s, q) {
+                    U32Field::Past => FrontField::Refused(2),
+                    U32Field::Got(minor, r) => read_front_end(s, version, major, minor, r),
+                },
+            },
+        },
+    }
+}
+
+// How many grids there are, check 8.
 pub fn read_count(s: &[u8], at: usize) -> NumberField
     ensures { λ r. ⌜ saysNumber r ≡ countField (now (s .entry)) at ⌝ }
 {
-    let U32Field::Got(n, p) = fields::read_u32(s, at) else {
-        return NumberField::Refused(2);
-    };
-    if 64 < n {
-        return NumberField::Refused(8);
-    }
-    NumberField::Got(n, p)
-}
-
-// The check that refused a number; 0 where none did.
-fn refusal(a: NumberField) -> u32
-    ensures { λ r. ⌜ r ≡ refusalOf a ⌝ }
-{
-    match a {
-        NumberField::Got(_, _) => 0,
-        NumberField::Refused(k) => k,
+    match fields::read_u32(s, at) {
+        U32Field::Past => NumberField::Refused(2),
+        U32Field::Got(n, p) => {
+            if 64 < n {
+                return NumberField::Refused(8);
+            }
+            NumberField::Got(n, p)
+        }
     }
 }
 
+// The header, check 1 first. Of the file's metadata only its end is wanted, so no entry is asked for.
 pub fn read_header(s: &[u8]) -> HeaderField
     ensures { λ r. ⌜ saysHeader r ≡ header (now (s .entry)) ⌝ }
 {
     if 2147483647 < s.len() {
         return HeaderField::Refused(1);
     }
-    let version_field = read_version(s);
-    let NumberField::Got(version, p) = version_field else {
-        return HeaderField::Refused(refusal(version_field));
-    };
-    let U32Field::Got(major, q) = fields::read_u32(s, p) else {
-        return HeaderField::Refused(2);
-    };
-    let U32Field::Got(minor, r) = fields::read_u32(s, q) else {
-        return HeaderField::Refused(2);
-    };
-    let offsets_field = read_offsets(s, r);
-    let NumberField::Got(_, t) = offsets_field else {
-        return HeaderField::Refused(refusal(offsets_field));
-    };
-    let PackedField::Got(packed, u) = read_packed(s, version, t) else {
-        return HeaderField::Refused(2);
-    };
-    let SpanField::Got(guid, v) = fields::read_bytes(s, u, 36) else {
-        return HeaderField::Refused(2);
-    };
-    let MetadataField::Got(_, w) = metadata::read_metadata(s, v, b"") else {
-        return HeaderField::Refused(2);
-    };
-    let count_field = read_count(s, w);
-    let NumberField::Got(count, x) = count_field else {
-        return HeaderField::Refused(refusal(count_field));
-    };
-    let h = ArchiveHeader {
-        file_version: version,
-        library_version_major: major,
-        library_version_minor: minor,
-        packed,
-        guid,
-        meta_pos: v,
-        grid_count: count,
-    };
-    HeaderField::Got(h, x)
+    match read_front(s, 0) {
+        FrontField::Refused(k) => HeaderField::Refused(k),
+        FrontField::Got(front, p) => match fields::read_bytes(s, p, 36) {
+            SpanField::Past => HeaderField::Refused(2),
+            SpanField::Got(guid, q) => match metadata::read_metadata(s, b"", q) {
+                MetadataField::Past => HeaderField::Refused(2),
+                MetadataField::Got(_, r) => match read_count(s, r) {
+                    NumberField::Refused(k) => HeaderField::Refused(k),
+                    NumberField::Got(count, n) => {
+                        let h = ArchiveHeader {
+                            file_version: front.version,
+                            library_version_major: front.major,
+                            library_version_minor: front.minor,
+                            packed: front.packed,
+                            guid,
+                            meta_pos: q,
+                            grid_count: count,
+                        };
+                        HeaderField::Got(h, n)
+                    }
+                },
+            },
+        },
+    }
 }
 
-// A position from the file's start, which may be the file's length and no more.
+// A descriptor's three names.
+pub fn read_names(s: &[u8], at: usize) -> NamesField
+    ensures { λ r. ⌜ saysNames r ≡ namesField (now (s .entry)) at ⌝ }
+{
+    match fields::read_name(s, at) {
+        SpanField::Past => NamesField::Past,
+        SpanField::Got(name, p) => match fields::read_name(s, p) {
+            SpanField::Past => NamesField::Past,
+            SpanField::Got(grid_type, q) => match fields::read_name(s, q) {
+                SpanField::Past => NamesField::Past,
+                SpanField::Got(instance_parent, n) => {
+                    let names = GridNames {
+                        name,
+                        grid_type,
+                        instance_parent,
+                    };
+                    NamesField::Got(names, n)
+                }
+            },
+        },
+    }
+}
+
+// A position from the file's start, check 9: it may be the file's length and no more.
 pub fn read_position(s: &[u8], at: usize) -> PositionField
     ensures { λ r. ⌜ saysPosition r ≡ positionField (now (s .entry)) at ⌝ }
 {
-    let U64Field::Got(v, p) = fields::read_u64(s, at) else {
-        return PositionField::Refused(2);
-    };
-    let n = s.len() as u64;
-    if n < v {
-        return PositionField::Refused(9);
+    match fields::read_u64(s, at) {
+        U64Field::Past => PositionField::Refused(2),
+        U64Field::Got(v, p) => {
+            let n = s.len() as u64;
+            if n < v {
+                return PositionField::Refused(9);
+            }
+            PositionField::Got(v as usize, p)
+        }
     }
-    PositionField::Got(v as usize, p)
 }
 
-// The check that refused a position; 0 where none did.
-fn position_refusal(a: PositionField) -> u32
-    ensures { λ r. ⌜ r ≡ positionRefusal a ⌝ }
+// A descriptor's three positions.
+pub fn read_positions(s: &[u8], at: usize) -> PositionsField
+    ensures { λ r. ⌜ saysPositions r ≡ positionsField (now (s .entry)) at ⌝ }
 {
-    match a {
-        PositionField::Got(_, _) => 0,
-        PositionField::Refused(k) => k,
+    match read_position(s, at) {
+        PositionField::Refused(k) => PositionsField::Refused(k),
+        PositionField::Got(grid_pos, p) => match read_position(s, p) {
+            PositionField::Refused(k) => PositionsField::Refused(k),
+            PositionField::Got(block_pos, q) => match read_position(s, q) {
+                PositionField::Refused(k) => PositionsField::Refused(k),
+                PositionField::Got(end_pos, n) => {
+                    let places = GridPositions {
+                        grid_pos,
+                        block_pos,
+                        end_pos,
+                    };
+                    PositionsField::Got(places, n)
+                }
+            },
+        },
     }
 }
 
+// The flags, check 7; before version 222 none are stored, and a packed file has 1.
 pub fn read_flags(s: &[u8], version: u32, packed: bool, at: usize) -> NumberField
     ensures { λ r. ⌜ saysNumber r ≡ flagsField (now (s .entry)) version packed at ⌝ }
 {
@@ -259,74 +379,121 @@ pub fn read_flags(s: &[u8], version: u32, packed: bool, at: usize) -> NumberFiel
         }
         return NumberField::Got(0, at);
     }
-    let U32Field::Got(f, p) = fields::read_u32(s, at) else {
-        return NumberField::Refused(2);
-    };
-    if 7 < f {
-        return NumberField::Refused(7);
+    match fields::read_u32(s, at) {
+        U32Field::Past => NumberField::Refused(2),
+        U32Field::Got(f, p) => {
+            if 7 < f {
+                return NumberField::Refused(7);
+            }
+            NumberField::Got(f, p)
+        }
     }
-    NumberField::Got(f, p)
 }
 
+// What a value says of halves.
+fn half_by(v: MetadataValue) -> HalfEntry
+    ensures { λ r. ⌜ r ≡ halfBy v ⌝ }
+{
+    match v {
+        MetadataValue::String(_) => HalfEntry::Nothing,
+        MetadataValue::Bool(b) => HalfEntry::Says(b),
+        MetadataValue::I32(_) => HalfEntry::Nothing,
+        MetadataValue::I64(_) => HalfEntry::Nothing,
+        MetadataValue::Float(_) => HalfEntry::Nothing,
+        MetadataValue::Vec3i(_) => HalfEntry::Nothing,
+        MetadataValue::Unknown(_, _) => HalfEntry::Nothing,
+    }
+}
+
+// What the entry that was found says of halves.
+fn half_of(found: FoundEntry) -> HalfEntry
+    ensures { λ r. ⌜ r ≡ halfEntry (saysFoundEntry found) ⌝ }
+{
+    match found {
+        FoundEntry::Nothing => HalfEntry::Nothing,
+        FoundEntry::At(e) => {
+            let v = e.value;
+            half_by(v)
+        }
+    }
+}
+
+// A grid's metadata, with its entry that tells of halves.
+fn read_half(s: &[u8], at: usize) -> MetadataField
+    ensures { λ r. ⌜ saysMetadata r ≡ lookup (now (s .entry)) (ascii "is_saved_as_half_float") at ⌝ }
+{
+    metadata::read_metadata(s, b"is_saved_as_half_float", at)
+}
+
+// A descriptor: names and positions in a row; flags and metadata at the grid position.
 pub fn read_descriptor(s: &[u8], h: ArchiveHeader, at: usize) -> DescriptorField
     ensures { λ r. ⌜ saysDescriptor r ≡ descriptor (now (s .entry)) h at ⌝ }
 {
-    let SpanField::Got(name, p) = fields::read_name(s, at) else {
-        return DescriptorField::Refused(2);
-    };
-    let SpanField::Got(grid_type, q) = fields::read_name(s, p) else {
-        return DescriptorField::Refused(2);
-    };
-    let SpanField::Got(parent, r) = fields::read_name(s, q) else {
-        return DescriptorField::Refused(2);
-    };
-    let grid_field = read_position(s, r);
-    let PositionField::Got(grid, t) = grid_field else {
-        return DescriptorField::Refused(position_refusal(grid_field));
-    };
-    let block_field = read_position(s, t);
-    let PositionField::Got(block, u) = block_field else {
-        return DescriptorField::Refused(position_refusal(block_field));
-    };
-    let end_field = read_position(s, u);
-    let PositionField::Got(end, _) = end_field else {
-        return DescriptorField::Refused(position_refusal(end_field));
-    };
-    let flags_field = read_flags(s, h.file_version, h.packed, grid);
-    let NumberField::Got(flags, m) = flags_field else {
-        return DescriptorField::Refused(refusal(flags_field));
-    };
-    let MetadataField::Got(_, n) = metadata::read_metadata(s, m, b"") else {
-        return DescriptorField::Refused(2);
-    };
-    let d = GridDescriptor {
-        name,
-        grid_type,
-        instance_parent: parent,
-        grid_pos: grid,
-        block_pos: block,
-        end_pos: end,
-        compression: flags,
-        meta_pos: m,
-        tree_pos: n,
-    };
-    DescriptorField::Got(d, end)
+    match read_names(s, at) {
+        NamesField::Past => DescriptorField::Refused(2),
+        NamesField::Got(names, p) => match read_positions(s, p) {
+            PositionsField::Refused(k) => DescriptorField::Refused(k),
+            PositionsField::Got(w, _) => match read_flags(s, h.file_version, h.packed, w.grid_pos) {
+                NumberField::Refused(k) => DescriptorField::Refused(k),
+                NumberField::Got(flags, m) => match read_half(s, m) {
+                    MetadataField::Past => DescriptorField::Refused(2),
+                    MetadataField::Got(found, n) => {
+                        let name = names.name;
+                        let grid_type = names.grid_type;
+                        let instance_parent = names.instance_parent;
+                        let half = half_of(found);
+                        let d = GridDescriptor {
+                            name,
+                            grid_type,
+                            instance_parent,
+                            grid_pos: w.grid_pos,
+                            block_pos: w.block_pos,
+                            end_pos: w.end_pos,
+                            compression: flags,
+                            half,
+                            meta_pos: m,
+                            tree_pos: n,
+                        };
+                        DescriptorField::Got(d, w.end_pos)
+                    }
+                },
+            },
+        },
+    }
 }
 
-// Whether one of the first n names has these bytes.
+// Whether one of the first n names has these bytes; there are 64 in all.
 fn is_repeated(s: &[u8], names: [Span; 64], n: usize, name: &[u8]) -> bool
-    requires { ⌜ n ≤ 64 ⌝ }
     ensures { λ r. ⌜ r ≡ repeated (now (s .entry)) (now (name .entry)) (take n names) ⌝ }
 {
     let mut k = 0;
     while k < n {
+        if 64 <= k {
+            return false;
+        }
         let w = names[k];
-        if fields::same_bytes(fields::bytes_of(s, w), name) {
+        if metadata::has_bytes(s, w, name) {
             return true;
         }
         k = k + 1;
     }
     false
+}
+
+// A descriptor that comes after those of the first n names: check 10 once its grid's metadata is read.
+fn read_next(s: &[u8], h: ArchiveHeader, names: [Span; 64], n: usize, at: usize) -> DescriptorField
+    ensures { λ r. ⌜ saysDescriptor r ≡ nextField (now (s .entry)) h (take n names) at ⌝ }
+{
+    match read_descriptor(s, h, at) {
+        DescriptorField::Refused(k) => DescriptorField::Refused(k),
+        DescriptorField::Got(d, q) => {
+            let w = d.name;
+            if is_repeated(s, names, n, fields::bytes_of(s, w)) {
+                return DescriptorField::Refused(10);
+            }
+            DescriptorField::Got(d, q)
+        }
+    }
 }
 
 // Whether the descriptor with the number i is the one that is asked for.
@@ -335,10 +502,7 @@ fn is_asked(s: &[u8], asked: Asked, name: &[u8], i: u32, d: GridDescriptor) -> b
 {
     match asked {
         Asked::Nothing => false,
-        Asked::ByName => {
-            let w = d.name;
-            fields::same_bytes(fields::bytes_of(s, w), name)
-        }
+        Asked::ByName => metadata::has_bytes(s, d.name, name),
         Asked::ByNumber(n) => i == n,
     }
 }
@@ -352,7 +516,7 @@ fn newer(
     d: GridDescriptor,
     best: FoundGrid,
 ) -> FoundGrid
-    ensures { λ r. ⌜ saysGrid r ≡ when (isAsked (now (s .entry)) asked (now (name .entry)) i d) (some d) (saysGrid best) ⌝ }
+    ensures { λ r. ⌜ saysFoundGrid r ≡ when (isAsked (now (s .entry)) asked (now (name .entry)) i d) (some d) (saysFoundGrid best) ⌝ }
 {
     if is_asked(s, asked, name, i, d) {
         return FoundGrid::At(d);
@@ -361,9 +525,9 @@ fn newer(
 }
 
 // The descriptors from `at` on, each checked, with the one that is asked for. The names passed so far are kept, so that none is read twice.
-fn read_grids(s: &[u8], h: ArchiveHeader, at: usize, asked: Asked, name: &[u8]) -> GridsField
+fn read_grids(s: &[u8], h: ArchiveHeader, asked: Asked, name: &[u8], at: usize) -> GridsField
     requires { ⌜ h .«grid_count» ≤ 64 ⌝ }
-    ensures { λ r. ⌜ saysGrids r ≡ gridsField (h .«grid_count») [] 0 (now (s .entry)) h asked (now (name .entry)) at none ⌝ }
+    ensures { λ r. ⌜ saysGrids r ≡ gridsField (now (s .entry)) h (h .«grid_count») [] 0 asked (now (name .entry)) none at ⌝ }
 {
     let count = h.grid_count;
     let mut names = [Span { start: 0, len: 0 }; 64];
@@ -371,16 +535,13 @@ fn read_grids(s: &[u8], h: ArchiveHeader, at: usize, asked: Asked, name: &[u8]) 
     let mut p = at;
     let mut i: u32 = 0;
     while i < count {
-        match read_descriptor(s, h, p) {
+        let n = i as usize;
+        match read_next(s, h, names, n, p) {
             DescriptorField::Refused(k) => {
                 return GridsField::Refused(k);
             }
             DescriptorField::Got(d, q) => {
                 let w = d.name;
-                let n = i as usize;
-                if is_repeated(s, names, n, fields::bytes_of(s, w)) {
-                    return GridsField::Refused(10);
-                }
                 names[n] = w;
                 found = newer(s, asked, name, i, d, found);
                 p = q;
@@ -397,7 +558,7 @@ pub fn read_file(s: &[u8], asked: Asked, name: &[u8]) -> FileAnswer
 {
     match read_header(s) {
         HeaderField::Refused(k) => FileAnswer::Refused(k),
-        HeaderField::Got(h, p) => match read_grids(s, h, p, asked, name) {
+        HeaderField::Got(h, p) => match read_grids(s, h, asked, name, p) {
             GridsField::Refused(k) => FileAnswer::Refused(k),
             GridsField::Got(found, _) => FileAnswer::Got(h, found),
         },
@@ -415,37 +576,37 @@ pub fn open_file(s: &[u8]) -> HeaderAnswer
 }
 
 // The descriptor that is asked for.
-pub fn grid_asked(s: &[u8], asked: Asked, name: &[u8]) -> GridAnswer
-    ensures { λ r. ⌜ saysGridAnswer r ≡ gridAsked (now (s .entry)) asked (now (name .entry)) ⌝ }
+pub fn grid_asked(s: &[u8], asked: Asked, name: &[u8]) -> DescriptorAnswer
+    ensures { λ r. ⌜ saysDescriptorAnswer r ≡ gridAsked (now (s .entry)) asked (now (name .entry)) ⌝ }
 {
     match read_file(s, asked, name) {
-        FileAnswer::Refused(k) => GridAnswer::Refused(k),
+        FileAnswer::Refused(k) => DescriptorAnswer::Refused(k),
         FileAnswer::Got(_, found) => match found {
-            FoundGrid::At(d) => GridAnswer::Grid(d),
-            FoundGrid::Nothing => GridAnswer::Refused(11),
+            FoundGrid::At(d) => DescriptorAnswer::Descriptor(d),
+            FoundGrid::Nothing => DescriptorAnswer::Refused(11),
         },
     }
 }
 
 // The descriptor of the grid of this name.
-pub fn grid_named(s: &[u8], name: &[u8]) -> GridAnswer
-    ensures { λ r. ⌜ saysGridAnswer r ≡ gridNamed (now (s .entry)) (now (name .entry)) ⌝ }
+pub fn grid_named(s: &[u8], name: &[u8]) -> DescriptorAnswer
+    ensures { λ r. ⌜ saysDescriptorAnswer r ≡ gridNamed (now (s .entry)) (now (name .entry)) ⌝ }
 {
     grid_asked(s, Asked::ByName, name)
 }
 
 // The descriptor of the grid with this number, from 0.
-pub fn grid_numbered(s: &[u8], n: u32) -> GridAnswer
-    ensures { λ r. ⌜ saysGridAnswer r ≡ gridNumbered (now (s .entry)) n ⌝ }
+pub fn grid_numbered(s: &[u8], n: u32) -> DescriptorAnswer
+    ensures { λ r. ⌜ saysDescriptorAnswer r ≡ gridNumbered (now (s .entry)) n ⌝ }
 {
     grid_asked(s, Asked::ByNumber(n), b"")
 }
 
 // The last entry of this name in the metadata at `at`.
-fn entry_at(s: &[u8], at: usize, name: &[u8]) -> EntryAnswer
+fn entry_at(s: &[u8], name: &[u8], at: usize) -> EntryAnswer
     ensures { λ r. ⌜ saysEntryAnswer r ≡ entryAt (now (s .entry)) (now (name .entry)) at ⌝ }
 {
-    match metadata::read_metadata(s, at, name) {
+    match metadata::read_metadata(s, name, at) {
         MetadataField::Past => EntryAnswer::Refused(2),
         MetadataField::Got(found, _) => match found {
             FoundEntry::At(e) => {
@@ -463,16 +624,17 @@ pub fn file_entry(s: &[u8], name: &[u8]) -> EntryAnswer
 {
     match open_file(s) {
         HeaderAnswer::Refused(k) => EntryAnswer::Refused(k),
-        HeaderAnswer::Header(h) => entry_at(s, h.meta_pos, name),
+        HeaderAnswer::Header(h) => entry_at(s, name, h.meta_pos),
     }
 }
 
+// An entry of the metadata of the grid that is asked for.
 fn grid_entry(s: &[u8], asked: Asked, grid: &[u8], name: &[u8]) -> EntryAnswer
     ensures { λ r. ⌜ saysEntryAnswer r ≡ gridEntry (now (s .entry)) asked (now (grid .entry)) (now (name .entry)) ⌝ }
 {
     match grid_asked(s, asked, grid) {
-        GridAnswer::Refused(k) => EntryAnswer::Refused(k),
-        GridAnswer::Grid(d) => entry_at(s, d.meta_pos, name),
+        DescriptorAnswer::Refused(k) => EntryAnswer::Refused(k),
+        DescriptorAnswer::Descriptor(d) => entry_at(s, name, d.meta_pos),
     }
 }
 

@@ -10,7 +10,8 @@ use lib.Arith.{digits-lt, digits-div, digits-mod}
 use lib.Dec.{lit<}
 use lib.IntN.{ℤ, pos}
 use borrow.Author.Tests.{eqb-true, eq-eqb}
-use Rattle.coordinates.specs.Coordinates.{InRange, aligned, coordOf, covers, globalOf, index, localOf, placeAlong, placeOf, places, remainder, rootOrigin, within}
+use Rattle.coordinates.specs.Inner.{InRange}
+use Rattle.coordinates.specs.Coordinates.{aligned, coordOf, covers, globalOf, index, localOf, placeAlong, placeOf, places, remainder, rootOrigin, within}
 use Rattle.coordinates.specs.declared.Index.{Index}
 use Rattle.coordinates.specs.declared.GlobalCoord.{GlobalCoord}
 use Rattle.coordinates.proofs.Axis as axis
@@ -105,7 +106,9 @@ module _ (d s : ℕ) (o v : GlobalCoord) where
       let z = axis.one s (localOf d p .2) (localOf d q .2) (o .2) (v .2) (w .2) (u .2) in
       ap index (sym (by-digits d p) ∙ (λ i. x i * (d * d) + y i * d + z i) ∙ by-digits d q)
 
-  at-digits : (x y z : ℕ) → x < d → y < d → z < d → within (coordOf s (o .0) x) s (v .0) ≡ true → within (coordOf s (o .1) y) s (v .1) ≡ true → within (coordOf s (o .2) z) s (v .2) ≡ true → covers (globalOf d s o (index (x * (d * d) + y * d + z))) s v ≡ true
+  at-digits :
+      (x y z : ℕ) → x < d → y < d → z < d → within (coordOf s (o .0) x) s (v .0) ≡ true → within (coordOf s (o .1) y) s (v .1) ≡ true →
+      within (coordOf s (o .2) z) s (v .2) ≡ true → covers (globalOf d s o (index (x * (d * d) + y * d + z))) s v ≡ true
   unfolding globalOf
   at-digits x y z hx hy hz a b c =
       let e = digits-of d x y z hx hy hz in
@@ -229,6 +232,9 @@ abbrev corner : ℕ → GlobalCoord
 corner n = (pos n, pos n, pos n)
 
 -- 4-node place 3 and 5-node place 1057 from origin 0; the last voxel from origin 2147479552
-pub figures : (globalOf 16 8 (corner 0) (index 3) ≡ (pos 0, pos 0, pos 24)) × (globalOf 32 128 (corner 0) (index 1057) ≡ corner 128) × (globalOf 8 1 (globalOf 16 8 (globalOf 32 128 (corner 2147479552) (index 32767)) (index 4095)) (index 511) ≡ corner 2147483647)
+pub figures :
+    (globalOf 16 8 (corner 0) (index 3) ≡ (pos 0, pos 0, pos 24))
+    × (globalOf 32 128 (corner 0) (index 1057) ≡ corner 128)
+    × (globalOf 8 1 (globalOf 16 8 (globalOf 32 128 (corner 2147479552) (index 32767)) (index 4095)) (index 511) ≡ corner 2147483647)
 unfolding globalOf localOf
 figures = (refl, refl, refl)

@@ -2,7 +2,8 @@
 -- by a multiple of m has the remainder of k.
 use mathlib.Core.Path.{_≡_, refl, sym, ap, _∙_}
 use Prim.Native.Nat.{ℕ, suc, _+_, _-_, _*_, _/_, _%_, _<_}
-use native.Mathlib.Nat.{mod-lt, div-add-mod', add-mul, suc-mul, zero-add, mul-one, mul-assoc, add-mul-mod-self-right, lt-of-mul-lt-mul-right, mul-le-mul-left, mod-add-mod, mod-eq-of-lt, mod-mod-of-dvd, mul-mod-left, mod-le, dvd-mul-left}
+use native.Mathlib.Nat.{mod-lt, div-add-mod', add-mul, suc-mul, zero-add, mul-one, mul-assoc, add-mul-mod-self-right, lt-of-mul-lt-mul-right, mul-le-mul-left}
+use native.Mathlib.Nat.{mod-add-mod, mod-eq-of-lt, mod-mod-of-dvd, mul-mod-left, mod-le, dvd-mul-left}
 use native.Mathlib.Omega.{arith}
 use lib.Arith.{digits-mod}
 use lib.IntN.{ℤ, pos, negsuc, natAbs, _+ℤ_, _-ℤ_}

@@ -1,13 +1,10 @@
--- Places and voxel coordinates (document 01, section 4), and the voxels that a cube covers (section 7).
+-- Places and voxel coordinates (section 4), and the voxels that a cube covers (section 7).
 -- A coordinate is an integer, ℤ; a place number and a place's x, y and z are natural numbers.
-use Prim.Native.Nat.{ℕ, suc, _+_, _-_, _*_, _/_, _%_, _<_, _≤_}
+use Prim.Native.Nat.{ℕ, suc, _+_, _-_, _*_, _/_, _%_}
 use mathlib.Core.Bool.{Bool, _&&_}
-use mathlib.Core.Path.{_≡_}
 use lib.Dec.{eqb}
 use lib.IntN.{ℤ, pos, negsuc, _+ℤ_, _-ℤ_}
 use lib.Signed.{leZ, ltZ}
-use mir.Syntax.{w32}
-use mir.Val.{SFits}
 use Rattle.coordinates.specs.declared.Index.{Index}
 use Rattle.coordinates.specs.declared.LocalCoord.{LocalCoord}
 use Rattle.coordinates.specs.declared.GlobalCoord.{GlobalCoord}
@@ -20,62 +17,45 @@ index p = record { 0 = p }
 abbrev pub places : ℕ → ℕ
 places d = d * d * d
 
--- section 4: place p of a node with side d is x = p / d², y = (p / d) mod d, z = p mod d
+-- section 4: the place in its node that place number p of a node with side d is; z changes fastest, x slowest
 unfoldable pub localOf : ℕ → Index → LocalCoord
 localOf d p = (p .0 / (d * d), p .0 / d % d, p .0 % d)
 
--- section 4: .. times the step (128, 8 or 1), plus the origin; first along one axis
+-- section 4: the voxel coordinate of a place: the place times the node's step (128, 8 or 1) from the origin on, first along one axis
 abbrev pub coordOf : ℕ → ℤ → ℕ → ℤ
 coordOf step o x = o +ℤ pos (x * step)
 
 unfoldable pub globalOf : ℕ → ℕ → GlobalCoord → Index → GlobalCoord
 globalOf d step o p = (coordOf step (o .0) (localOf d p .0), coordOf step (o .1) (localOf d p .1), coordOf step (o .2) (localOf d p .2))
 
--- section 7: a coordinate's remainder (0 to m - 1) by m; that of -(n + 1) is m - 1 less n mod m
+-- section 7: a coordinate's remainder by m, from 0 to m - 1 also for a negative one; that of -(n + 1) is m - 1 less n mod m
 unfoldable pub remainder : ℤ → ℕ → ℕ
 remainder (pos n) m = n % m
 remainder (negsuc n) m = m - suc (n % m)
 
--- section 7: the origin of a voxel's root, got by taking off each coordinate's remainder by 4096
+-- section 7: the origin of a voxel's root: each coordinate less its remainder by 4096
 abbrev pub rootCoord : ℤ → ℤ
 rootCoord c = c -ℤ pos (remainder c 4096)
 
 unfoldable pub rootOrigin : GlobalCoord → GlobalCoord
 rootOrigin v = (rootCoord (v .0), rootCoord (v .1), rootCoord (v .2))
 
--- section 7, following child bits downwards: the place of voxel v in the node of side d that holds it. Along each axis it goes
--- by the coordinate's remainder by the node's whole span
+-- section 7, on the way down: the place of voxel v in the node of side d that holds it. Along each axis it goes by the coordinate's
+-- remainder by the node's whole span
 abbrev pub placeAlong : ℕ → ℕ → ℤ → ℕ
 placeAlong d step c = remainder c (d * step) / step
 
 unfoldable pub placeOf : ℕ → ℕ → GlobalCoord → Index
 placeOf d step v = index (placeAlong d step (v .0) * (d * d) + placeAlong d step (v .1) * d + placeAlong d step (v .2))
 
--- section 7: at least the corner's and less than the corner's plus the side
+-- section 7: from c on, for `side` voxels
 unfoldable pub within : ℤ → ℕ → ℤ → Bool
 within c side v = leZ c v && ltZ v (c +ℤ pos side)
 
--- section 7: the cube with this lowest corner and side covers each voxel whose x, y and z are all within it
+-- section 7: the cube with this lowest corner and side covers a voxel that lies in it on all three axes
 unfoldable pub covers : GlobalCoord → ℕ → GlobalCoord → Bool
 covers c side v = within (c .0) side (v .0) && within (c .1) side (v .1) && within (c .2) side (v .2)
 
 -- section 8, check 17: all three are multiples of m
 unfoldable pub aligned : ℕ → GlobalCoord → Bool
 aligned m o = eqb (remainder (o .0) m) 0 && eqb (remainder (o .1) m) 0 && eqb (remainder (o .2) m) 0
-
--- an i32 holds each coordinate
-abbrev pub InRange : GlobalCoord → Type 0
-InRange v = SFits w32 (v .0) × SFits w32 (v .1) × SFits w32 (v .2)
-
--- m divides 2147483648, as 8, 128 and 4096 do
-pub record Divides (m : ℕ) : Type 0 where
-  pub positive : 0 < m
-  pub whole : 2147483648 % m ≡ 0
-
--- what the formulas need of a node's side and step, and the document's three have: 32 and 128, 16 and 8, 8 and 1
-pub record Node (side step : ℕ) : Type 0 where
-  pub side-positive : 0 < side
-  pub step-positive : 0 < step
-  pub few-places : places side ≤ 32768
-  pub small-span : side * step ≤ 4096
-  pub whole-spans : 2147483648 % (side * step) ≡ 0

@@ -4,7 +4,8 @@
 ghost use mathlib.Core.Path.{_≡_};
 ghost use mathlib.Core.Bool.{true};
 ghost use Prim.Native.Nat.{_*_, _<_};
-ghost use Rattle.coordinates.specs.Coordinates.{Divides, Node, aligned, coordOf, globalOf, localOf, placeAlong, placeOf, places, remainder, rootCoord, rootOrigin};
+ghost use Rattle.coordinates.specs.Inner.{Divides, Node};
+ghost use Rattle.coordinates.specs.Coordinates.{aligned, coordOf, globalOf, localOf, placeAlong, placeOf, places, remainder, rootCoord, rootOrigin};
 
 // The place number of a child, a tile or a voxel in its node.
 pub struct Index(pub u32);

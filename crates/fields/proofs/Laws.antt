@@ -6,7 +6,7 @@ use Prim.Native.Nat.{ℕ, zero, suc, _+_, _-_, _≤_, _<_, _^_, _%_, _*_}
 use native.Mathlib.Omega.{arith}
 use native.Mathlib.Nat.{le-of-lt}
 use lib.ListN.{length, take, drop, getD, length-drop, drop-of-length-le}
-use lib.Dec.{T, eqb, eqb→eq}
+use lib.Dec.{T, leb, eqb, eqb→eq}
 use lib.IntN.{ℤ}
 use lib.Ieee.{Float, nan, inf, fin, Format, ofBits, isNan, nanBits, binary64}
 use lib.Ieee.Bits.{nanBits-is, nanBits-above}
@@ -16,7 +16,7 @@ use mir.ValLaws.{toZ-ofZ}
 use lib.Signed.{mag}
 use lib.Seq.{drop-cons, drop-length, take-nil, take-all}
 use native.Mathlib.Numerals.{add-one}
-use borrow.Author.Tests.{le-leb, lt-leb, leb-true, lt-ltb, le-ltb, eq-eqb, ne-eqb, eqb-true}
+use borrow.Author.Tests.{le-leb, lt-leb, leb-true, leb-false, lt-ltb, le-ltb, eq-eqb, ne-eqb, eqb-true}
 use Rattle.fields.specs.Le.{signed}
 use Rattle.fields.specs.Parse.{Parse, got, fails, then, when, check, field}
 use Rattle.fields.specs.Fields.{u32Field, bytesField, stringField, sameBytes}
@@ -38,6 +38,42 @@ unfolding then
 then-then (got a n) g f = refl
 then-then (fails k) g f = refl
 
+-- Steps that keep an equation: what follows the same parse, and what is made of its value.
+pub then-cong : {A B : Type 0} (m : Parse A) (f g : A → ℕ → Parse B) → ((a : A) (n : ℕ) → got a n ≡ m → f a n ≡ g a n) → then m f ≡ then m g
+unfolding then
+then-cong (got a n) f g h = h a n refl
+then-cong (fails k) f g h = refl
+
+pub then-done : {A : Type 0} (m : Parse A) → m ≡ then m (λ a n. got a n)
+unfolding then
+then-done (got a n) = refl
+then-done (fails k) = refl
+
+pub through :
+    {A B C : Type 0} (m : Parse A) (h : A → ℕ → Parse C) (g : A → ℕ → Parse B) (f : B → ℕ → Parse C) → ((a : A) (n : ℕ) → got a n ≡ m → h a n ≡ then (g a n) f) →
+    then m h ≡ then (then m g) f
+through m h g f e = then-cong m _ _ e ∙ sym (then-then m g f)
+
+pub made :
+    {A B C : Type 0} (m : Parse A) (h : A → C) (g : A → B) (f : B → C) → ((a : A) (n : ℕ) → got a n ≡ m → h a ≡ f (g a)) →
+    then m (λ a n. got (h a) n) ≡ then (then m (λ a n. got (g a) n)) (λ b n. got (f b) n)
+unfolding then
+made (got a n) h g f e = ap (λ (c : _). got c n) (e a n refl)
+made (fails k) h g f e = refl
+
+-- the same where what is made depends on the end too
+pub made-at :
+    {A B C : Type 0} (m : Parse A) (h : A → ℕ → C) (g : A → ℕ → B) (f : B → C) → ((a : A) (n : ℕ) → got a n ≡ m → h a n ≡ f (g a n)) →
+    then m (λ a n. got (h a n) n) ≡ then (then m (λ a n. got (g a n) n)) (λ b n. got (f b) n)
+unfolding then
+made-at (got a n) h g f e = ap (λ (c : _). got c n) (e a n refl)
+made-at (fails k) h g f e = refl
+
+pub made-then : {A B C : Type 0} (m : Parse A) (g : A → B) (f : B → ℕ → Parse C) → then (then m (λ a n. got (g a) n)) f ≡ then m (λ a n. f (g a) n)
+unfolding then
+made-then (got a n) g f = refl
+made-then (fails k) g f = refl
+
 pub check-passes : {A : Type 0} {ok : Bool} (k : ℕ) {p x : Parse A} → true ≡ ok → x ≡ p → x ≡ check ok k p
 unfolding check
 check-passes k {p = p} e h = h ∙ ap (λ (b : Bool). check b k p) e
@@ -57,35 +93,43 @@ unfolding check
 check-back true k p e = (refl, e)
 check-back false k p e = let z : _≡_ {A = ℕ} 0 1 = cc in absurd (omega arith)
 
-pub field-back : {A : Type 0} (s : List ℕ) (at k : ℕ) (b : A) {x : A} {n : ℕ} → got x n ≡ field s at k b → (at + k ≤ length s) × (x ≡ b) × (n ≡ at + k)
+pub field-back : {A : Type 0} (s : List ℕ) (at k : ℕ) (b : A) {x : A} {n : ℕ} → got x n ≡ field s k b at → (at + k ≤ length s) × (x ≡ b) × (n ≡ at + k)
 unfolding field
 field-back s at k b e =
     let c = check-back _ _ _ e in
     let v = c .1 in
     (leb-true _ _ (c .0), cc, cc)
 
--- What holds of everything that a parse can get: by its steps.
-abbrev pub Every : {A : Type 0} → (A → ℕ → Type 0) → Parse A → Type 0
-Every P m = (x : _) (n : ℕ) → got x n ≡ m → P x n
+pub field-long : {A : Type 0} (s : List ℕ) (at n : ℕ) (b : A) {k : ℕ} → fails k ≡ field s n b at → length s < at + n
+unfolding field check
+field-long s at n b {k} e = go (leb (at + n) (length s)) refl e
+  where
+    go : (t : Bool) → leb (at + n) (length s) ≡ t → fails k ≡ check t 2 (got b (at + n)) → length s < at + n
+    go true x y = let z : _≡_ {A = ℕ} 0 1 = cc in absurd (omega arith)
+    go false x y = omega (arith, leb-false)
 
-pub got-every : {A : Type 0} (P : A → ℕ → Type 0) (a : A) (p : ℕ) → P a p → Every P (got a p)
-got-every P a p h x n e =
+-- What holds of everything that a parse can get: by its steps.
+abbrev pub Always : {A : Type 0} → (A → ℕ → Type 0) → Parse A → Type 0
+Always P m = (x : _) (n : ℕ) → got x n ≡ m → P x n
+
+pub got-always : {A : Type 0} (P : A → ℕ → Type 0) (a : A) (p : ℕ) → P a p → Always P (got a p)
+got-always P a p h x n e =
     let u : x ≡ a = cc in
     let v : n ≡ p = cc in
     rw (u, v) h
 
-pub then-every : {A B : Type 0} (P : B → ℕ → Type 0) (m : Parse A) (f : A → ℕ → Parse B) → ((a : A) (p : ℕ) → got a p ≡ m → Every P (f a p)) → Every P (then m f)
-then-every P m f h x n e =
+pub then-always : {A B : Type 0} (P : B → ℕ → Type 0) (m : Parse A) (f : A → ℕ → Parse B) → ((a : A) (p : ℕ) → got a p ≡ m → Always P (f a p)) → Always P (then m f)
+then-always P m f h x n e =
     let b = then-back m f e in
     h (b .0) (b .1) (b .2) x n (b .3)
 
-pub check-every : {A : Type 0} (P : A → ℕ → Type 0) (ok : Bool) (k : ℕ) (p : Parse A) → (ok ≡ true → Every P p) → Every P (check ok k p)
-check-every P ok k p h x n e =
+pub check-always : {A : Type 0} (P : A → ℕ → Type 0) (ok : Bool) (k : ℕ) (p : Parse A) → (ok ≡ true → Always P p) → Always P (check ok k p)
+check-always P ok k p h x n e =
     let b = check-back ok k p e in
     h (b .0) x n (b .1)
 
-pub field-every : {A : Type 0} (P : A → ℕ → Type 0) (s : List ℕ) (at k : ℕ) (b : A) → (at + k ≤ length s → P b (at + k)) → Every P (field s at k b)
-field-every P s at k b h x n e =
+pub field-always : {A : Type 0} (P : A → ℕ → Type 0) (s : List ℕ) (at k : ℕ) (b : A) → (at + k ≤ length s → P b (at + k)) → Always P (field s k b at)
+field-always P s at k b h x n e =
     let c = field-back s at k b e in
     rw (c .1, c .2) (h (c .0))
 
@@ -137,11 +181,11 @@ pub no-nan-bits : (n : ℕ) → n % 0x8000_0000_0000_0000 ≤ 0x7ff0_0000_0000_0
 no-nan-bits n h = rw (nanBits-above binary64 n, le-ltb _ _ h) tt
 
 -- a field that is whole, and one that is not
-pub field-whole : {A : Type 0} (s : List ℕ) (at n : ℕ) (a b : A) → at + n ≤ length s → a ≡ b → got a (at + n) ≡ field s at n b
+pub field-whole : {A : Type 0} (s : List ℕ) (at n : ℕ) (a b : A) → at + n ≤ length s → a ≡ b → got a (at + n) ≡ field s n b at
 unfolding field check
 field-whole s at n a b h e = simp (le-leb _ _ h, e)
 
-pub field-past : {A : Type 0} (s : List ℕ) (at n : ℕ) (b : A) → length s < at + n → fails 2 ≡ field s at n b
+pub field-past : {A : Type 0} (s : List ℕ) (at n : ℕ) (b : A) → length s < at + n → fails 2 ≡ field s n b at
 unfolding field check
 field-past s at n b h = simp (lt-leb _ _ h)
 

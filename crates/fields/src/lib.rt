@@ -1,11 +1,11 @@
-// Document 01, section 1: numbers, strings and vectors at a position of the file's bytes.
+// Section 1 of document 01: numbers, strings and vectors at a position of the file's bytes.
 ghost use mathlib.Core.Path.{_≡_};
 ghost use Prim.Native.Nat.{_+_, _-_, _≤_, _<_, _^_};
 ghost use lib.ListN.{length};
 ghost use lib.Ieee.{ofBits, binary64};
 ghost use Rattle.fields.specs.Le.{byteAt, u16At, u32At, u64At, signed};
-ghost use Rattle.fields.specs.Fields.{u8Field, u32Field, u64Field, i32Field, i64Field, f64Field, iVec3Field, dVec3Field, bytesField, stringField, bytesOf, sameBytes};
-ghost use Rattle.fields.specs.Answers.{saysU8, saysU32, saysU64, saysI32, saysI64, saysF64, saysIVec3, saysDVec3, saysSpan};
+ghost use Rattle.fields.specs.Fields.{u8Field, u32Field, u64Field, i32Field, i64Field, iVec3Field, dVec3Field, bytesField, stringField, bytesOf, sameBytes};
+ghost use Rattle.fields.specs.Inner.{saysU8, saysU32, saysU64, saysI32, saysI64, saysIVec3, saysDVec3, saysSpan};
 
 // Three i32 in the order x, y, z.
 pub struct IVec3 {
@@ -50,11 +50,6 @@ pub enum I32Field {
 
 pub enum I64Field {
     Got(i64, usize),
-    Past,
-}
-
-pub enum F64Field {
-    Got(f64, usize),
     Past,
 }
 
@@ -192,15 +187,6 @@ pub fn read_i64(s: &[u8], at: usize) -> I64Field
     I64Field::Got(i64_of(u64_at(s, at)), at + 8)
 }
 
-pub fn read_f64(s: &[u8], at: usize) -> F64Field
-    ensures { λ r. ⌜ saysF64 r ≡ f64Field (now (s .entry)) at ⌝ }
-{
-    if remaining(s, at) < 8 {
-        return F64Field::Past;
-    }
-    F64Field::Got(f64_of(u64_at(s, at)), at + 8)
-}
-
 pub fn read_i_vec3(s: &[u8], at: usize) -> IVec3Field
     ensures { λ r. ⌜ saysIVec3 r ≡ iVec3Field (now (s .entry)) at ⌝ }
 {
@@ -230,7 +216,7 @@ pub fn read_d_vec3(s: &[u8], at: usize) -> DVec3Field
 }
 
 pub fn read_bytes(s: &[u8], at: usize, n: usize) -> SpanField
-    ensures { λ r. ⌜ saysSpan r ≡ bytesField (now (s .entry)) at n ⌝ }
+    ensures { λ r. ⌜ saysSpan r ≡ bytesField (now (s .entry)) n at ⌝ }
 {
     if s.len() < at {
         return SpanField::Past;

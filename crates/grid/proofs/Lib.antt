@@ -1,2 +1,4 @@
 pub mod Laws
 pub mod Leaves
+pub mod Coverage
+pub mod Agree

@@ -1,31 +1,34 @@
-// Document 01, sections 7 and 8: opening a grid by its name or its number, and the leaf fill.
+// Sections 7 and 8 of document 01: opening a grid by its name or its number, and the leaf fill.
 ghost use mathlib.Core.Path.{_≡_};
-ghost use Prim.Native.Nat.{_≤_};
+ghost use Prim.Native.Nat.{_+_, _≤_, _<_};
 ghost use lib.ListN.{length};
-ghost use Rattle.fields.specs.Fields.{bytesOf};
-ghost use Rattle.grid.specs.Grid.{isFloatTree, isPacked, widthBy, codingField, openGrid, openGridNamed, openGridNumbered, fillLeaf, fillLeafNamed, fillLeafNumbered};
-ghost use Rattle.grid.specs.Answers.{saysCoding, lookIn, look, saysFound, saysGrid, saysFill, keptBy};
+ghost use Rattle.fields.specs.Parse.{then, got};
+ghost use Rattle.archive.specs.Answer.{answer};
+ghost use Rattle.half.specs.Inner.{isWidth};
+ghost use Rattle.tree.specs.Inner.{saysPassed, traversed};
+ghost use Rattle.grid.specs.Grid.{isFloatTree, isPacked, widthOf, codingOf, openGrid, openGridNamed, openGridNumbered, fillLeaf, fillLeafNamed, fillLeafNumbered};
+ghost use Rattle.grid.specs.Inner.{passedOf, passedField, lookField, look, saysLooked};
+ghost use Rattle.grid.specs.Answers.{saysGridAnswer, saysFill, keptBy};
 use archive::ArchiveHeader;
 use archive::Asked;
 use archive::FileAnswer;
 use archive::FoundGrid;
 use archive::GridDescriptor;
-use fields::Span;
-use metadata::FoundEntry;
-use metadata::MetadataField;
-use metadata::MetadataValue;
+use archive::HalfEntry;
 use transform::Map;
 use transform::MapField;
 use tree::BlocksAt;
 use tree::FoundLeaf;
+use tree::Topology;
 use tree::TopologyField;
 use values::Coding;
 
-// An opened grid: how its values are stored, its transform, its background's pattern, the length of its active list, and where its roots
-// and its blocks start.
+// An opened grid: how its values are stored, its transform and where that ends, its background's pattern, the length of its active list, and
+// where its roots and its blocks start. The patterns of the transform's doubles are the last 120 bytes before its end, or the last 144.
 pub struct OpenedGrid {
     pub coding: Coding,
     pub transform: Map,
+    pub transform_end: usize,
     pub background: u32,
     pub active_count: u64,
     pub roots_pos: usize,
@@ -41,11 +44,6 @@ pub enum GridAnswer {
 pub enum FillAnswer {
     Filled,
     Refused(u32),
-}
-
-pub enum CodingField {
-    Got(Coding, usize),
-    Past,
 }
 
 // An opened grid, with the leaf that was wanted.
@@ -77,130 +75,110 @@ fn is_packed(flags: u32) -> bool
     flags / 4 % 2 == 1
 }
 
-// The width of a stored value that this entry says.
-fn width_by(v: MetadataValue) -> usize
-    ensures { λ r. ⌜ r ≡ widthBy v ⌝ }
+// The width of a stored value, by the grid's half entry.
+fn width_of(half: HalfEntry) -> usize
+    ensures { λ r. ⌜ (r ≡ widthOf half) × isWidth r ⌝ }
 {
-    match v {
-        MetadataValue::Bool(b) => {
+    match half {
+        HalfEntry::Nothing => 4,
+        HalfEntry::Says(b) => {
             if b {
                 return 2;
             }
             4
         }
-        MetadataValue::String(_) => 4,
-        MetadataValue::I32(_) => 4,
-        MetadataValue::I64(_) => 4,
-        MetadataValue::Float(_) => 4,
-        MetadataValue::Vec3i(_) => 4,
-        MetadataValue::Unknown(_, _) => 4,
     }
 }
 
-fn read_coding(s: &[u8], h: ArchiveHeader, d: GridDescriptor) -> CodingField
-    ensures { λ r. ⌜ saysCoding r ≡ codingField (now (s .entry)) h d ⌝ }
+fn coding_of(h: ArchiveHeader, d: GridDescriptor) -> Coding
+    ensures { λ r. ⌜ (r ≡ codingOf h d) × isWidth (r .width) ⌝ }
 {
-    let at = d.meta_pos;
-    let version = h.file_version;
-    let flags = d.compression;
-    match metadata::read_metadata(s, at, b"is_saved_as_half_float") {
-        MetadataField::Past => CodingField::Past,
-        MetadataField::Got(found, p) => match found {
-            FoundEntry::Nothing => CodingField::Got(
-                Coding {
-                    version,
-                    flags,
-                    width: 4,
-                },
-                p,
-            ),
-            FoundEntry::At(e) => {
-                let v = e.value;
-                let width = width_by(v);
-                CodingField::Got(
-                    Coding {
-                        version,
-                        flags,
-                        width,
-                    },
-                    p,
-                )
-            }
+    let half = d.half;
+    Coding {
+        version: h.file_version,
+        flags: d.compression,
+        width: width_of(half),
+    }
+}
+
+// Transform, topology and blocks of this descriptor's grid, with the leaf of the wanted number. The topology's checks come before those of all
+// blocks, which are passed beside it.
+fn read_content(s: &[u8], c: Coding, d: GridDescriptor, wanted: u64) -> FoundAnswer
+    requires { ⌜ (length (now s) ≤ 2147483647) × isWidth (c .width) ⌝ }
+    ensures { λ r. ⌜ saysLooked r ≡ answer (passedField (now (s .entry)) c d wanted) ⌝ }
+{
+    let block_pos = d.block_pos;
+    match transform::read_transform(s, d.tree_pos) {
+        MapField::Refused(k) => FoundAnswer::Refused(k),
+        MapField::Got(map, p) => match tree::read_tree_topology(s, c, 256, wanted, block_pos, p) {
+            TopologyField::Refused(k) => FoundAnswer::Refused(k),
+            TopologyField::Got(t) => found_in(c, map, p, block_pos, t),
         },
     }
 }
 
-// The grid of this descriptor, with the leaf of the wanted number. The topology's checks come before those of all blocks.
-fn read_grid(s: &[u8], wanted: u64, h: ArchiveHeader, d: GridDescriptor) -> FoundAnswer
+// What is handed out of a pass, unless a block was refused.
+fn found_in(c: Coding, map: Map, end: usize, block_pos: usize, t: Topology) -> FoundAnswer
+    requires { ⌜ t .pass .«active_tiles» + t .pass .blocks .voxels < 18446744073709551616 ⌝ }
+    ensures { λ r. ⌜ saysLooked r ≡ answer (then (saysPassed (t .pass .blocks)) λ m n. got (passedOf c map end «block_pos» (traversed t) m) n) ⌝ }
+{
+    let head = t.head;
+    let pass = t.pass;
+    let blocks = pass.blocks;
+    let state = blocks.at;
+    let leaf = blocks.found;
+    match state {
+        BlocksAt::Refused(k) => FoundAnswer::Refused(k),
+        BlocksAt::At(_) => {
+            let grid = OpenedGrid {
+                coding: c,
+                transform: map,
+                transform_end: end,
+                background: head.background,
+                active_count: pass.active_tiles + blocks.voxels,
+                roots_pos: head.roots_pos,
+                root_count: head.root_count,
+                block_pos,
+            };
+            FoundAnswer::Got(Found { grid, leaf })
+        }
+    }
+}
+
+// The grid of this descriptor, with the leaf of the wanted number.
+fn read_grid(s: &[u8], h: ArchiveHeader, d: GridDescriptor, wanted: u64) -> FoundAnswer
     requires { ⌜ length (now s) ≤ 2147483647 ⌝ }
-    ensures { λ r. ⌜ saysFound r ≡ lookIn (now (s .entry)) wanted h d ⌝ }
+    ensures { λ r. ⌜ saysLooked r ≡ answer (lookField (now (s .entry)) h d wanted) ⌝ }
 {
     let grid_type = d.grid_type;
     let parent = d.instance_parent;
-    let flags = d.compression;
-    let tree_pos = d.tree_pos;
-    let block_pos = d.block_pos;
     if !is_float_tree(fields::bytes_of(s, grid_type)) {
         return FoundAnswer::Refused(12);
     }
     if parent.len != 0 {
         return FoundAnswer::Refused(13);
     }
-    if is_packed(flags) {
+    if is_packed(d.compression) {
         return FoundAnswer::Refused(6);
     }
-    let CodingField::Got(coding, _) = read_coding(s, h, d) else {
-        return FoundAnswer::Refused(2);
-    };
-    match transform::read_transform(s, tree_pos) {
-        MapField::Refused(k) => FoundAnswer::Refused(k),
-        MapField::Got(map, q) => match tree::read_tree_topology(s, coding, wanted, block_pos, q) {
-            TopologyField::Refused(k) => FoundAnswer::Refused(k),
-            TopologyField::Got(t) => {
-                let pass = t.pass;
-                let tiles = pass.tiles;
-                let passed = pass.blocks;
-                let voxels = passed.voxels;
-                let leaf = passed.found;
-                let state = passed.at;
-                let background = t.background;
-                let roots_pos = t.roots_pos;
-                let root_count = t.root_count;
-                match state {
-                    BlocksAt::Refused(k) => FoundAnswer::Refused(k),
-                    BlocksAt::At(_) => {
-                        let grid = OpenedGrid {
-                            coding,
-                            transform: map,
-                            background,
-                            active_count: tiles + voxels,
-                            roots_pos,
-                            root_count,
-                            block_pos,
-                        };
-                        FoundAnswer::Got(Found { grid, leaf })
-                    }
-                }
-            }
-        },
-    }
+    read_content(s, coding_of(h, d), d, wanted)
 }
 
 // The grid that is asked for, opened, with the leaf of the wanted number.
 fn look_at(s: &[u8], asked: Asked, name: &[u8], wanted: u64) -> FoundAnswer
-    ensures { λ r. ⌜ saysFound r ≡ look (now (s .entry)) asked (now (name .entry)) wanted ⌝ }
+    ensures { λ r. ⌜ saysLooked r ≡ look (now (s .entry)) asked (now (name .entry)) wanted ⌝ }
 {
     match archive::read_file(s, asked, name) {
         FileAnswer::Refused(k) => FoundAnswer::Refused(k),
         FileAnswer::Got(h, found) => match found {
             FoundGrid::Nothing => FoundAnswer::Refused(11),
-            FoundGrid::At(d) => read_grid(s, wanted, h, d),
+            FoundGrid::At(d) => read_grid(s, h, d, wanted),
         },
     }
 }
 
 fn open_grid(s: &[u8], asked: Asked, name: &[u8]) -> GridAnswer
-    ensures { λ r. ⌜ saysGrid r ≡ openGrid (now (s .entry)) asked (now (name .entry)) ⌝ }
+    ensures { λ r. ⌜ saysGridAnswer r ≡ openGrid (now (s .entry)) asked (now (name .entry)) ⌝ }
 {
     match look_at(s, asked, name, 0) {
         FoundAnswer::Refused(k) => GridAnswer::Refused(k),
@@ -213,14 +191,14 @@ fn open_grid(s: &[u8], asked: Asked, name: &[u8]) -> GridAnswer
 
 // Opens the grid of this name.
 pub fn open_grid_named(s: &[u8], name: &[u8]) -> GridAnswer
-    ensures { λ r. ⌜ saysGrid r ≡ openGridNamed (now (s .entry)) (now (name .entry)) ⌝ }
+    ensures { λ r. ⌜ saysGridAnswer r ≡ openGridNamed (now (s .entry)) (now (name .entry)) ⌝ }
 {
     open_grid(s, Asked::ByName, name)
 }
 
 // Opens the grid with this number, from 0.
 pub fn open_grid_numbered(s: &[u8], n: u32) -> GridAnswer
-    ensures { λ r. ⌜ saysGrid r ≡ openGridNumbered (now (s .entry)) n ⌝ }
+    ensures { λ r. ⌜ saysGridAnswer r ≡ openGridNumbered (now (s .entry)) n ⌝ }
 {
     open_grid(s, Asked::ByNumber(n), b"")
 }

@@ -15,7 +15,8 @@ use lib.Ieee.Exact.{HasValue, odd-sign as odd-value}
 use lib.Ieee.Fits.{and-l, and-r, odd-fits, cond-fits, nan-fits, inf-fits}
 use borrow.Author.Tests.{eqb-false, ne-eqb, lt-leb, le-leb, lt-ltb, le-ltb, ltb-true, ltb-false}
 use Rattle.fields.specs.Le.{u16At, u32At}
-use Rattle.half.specs.Half.{sign, exponent, fraction, fieldsValue, halfValue, isNanHalf, quiet, widenedNan, widened, isTimes, isTable, storedValue}
+use Rattle.half.specs.Half.{sign, exponent, fraction, fieldsValue, halfValue, isNanHalf, quiet, widenedNan, widened, storedValue}
+use Rattle.half.specs.Inner.{isTimes, isTable}
 use Rattle.half.proofs.Odd.{odd-shift}
 use Rattle.half.proofs.Table.{every, entry}
 
@@ -245,18 +246,17 @@ tested xs = eqb (length xs) 1024 && every right 0 xs
 
 pub table : (xs : List ℕ) → T (tested xs) → isTable xs
 unfolding isTable tested
-table xs t k h =
+table xs t =
     let n = eqb→eq (length xs) 1024 (and-l (eqb (length xs) 1024) (every right 0 xs) t) in
-    let r = entry right xs (and-r (eqb (length xs) 1024) (every right 0 xs) t) k (omega arith) in
-    let e = eqb→eq (getD xs k 0) (widened k) r in
-    (e, subst (isTimes k) (sym e) (times k h))
+    let r = entry right xs (and-r (eqb (length xs) 1024) (every right 0 xs) t) in
+    (n, λ k h. (let e = eqb→eq (getD xs k 0) (widened k) (r k (omega arith)) in (e, subst (isTimes k) (sym e) (times k h))))
 
 -- ---- a stored value, by its width
 
-pub stored-half : (width : ℕ) (s : List ℕ) (at : ℕ) → width ≡ 2 → widened (u16At s at) ≡ storedValue width s at
+pub stored-half : (width : ℕ) (s : List ℕ) (at : ℕ) → width ≡ 2 → widened (u16At s at) ≡ storedValue s width at
 unfolding storedValue
 stored-half width s at e = simp e
 
-pub stored-single : (width : ℕ) (s : List ℕ) (at : ℕ) → (width ≡ 2 → ⊥) → u32At s at ≡ storedValue width s at
+pub stored-single : (width : ℕ) (s : List ℕ) (at : ℕ) → (width ≡ 2 → ⊥) → u32At s at ≡ storedValue s width at
 unfolding storedValue
 stored-single width s at n = simp (ne-eqb width 2 n)

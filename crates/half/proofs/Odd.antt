@@ -8,8 +8,8 @@ use lib.IntN.{pos, negsuc}
 use lib.Dec.{leb}
 use lib.Pow.{pow-add, pow-pos}
 use lib.Bits.{shifted-half, shifted-even}
-use lib.Count.{trailingZeros, under}
-use lib.Ieee.{Float, fin, minus, odd}
+use lib.Count.{trailingZeros}
+use lib.Ieee.{fin, minus, odd}
 use borrow.Author.Tests.{leb-true, leb-false, le-leb, lt-leb}
 
 zeros : (j d q : ℕ) → trailingZeros (j + d) (q * 2 ^ j) ≡ j + trailingZeros d q

@@ -1,14 +1,12 @@
--- Document 01, section 5, second paragraph: "A half widens exactly, sign of zero kept; a NaN keeps its fraction bits, quiet bit set."
+-- Section 5: halves and the 32-bit patterns that they widen to. Widening loses nothing: the value is the half's own, minus zero stays minus zero,
+-- and of a NaN the sign and the fraction bits are kept while its quiet bit is set.
 -- A half is IEEE 754's binary16, a number below 65536: a sign bit, five exponent bits, ten fraction bits.
 -- `Float`, `binary32` and the bit patterns of binary32 are those of lib.Ieee.
-use mathlib.Core.Path.{_≡_}
-use Prim.Native.Nat.{ℕ, zero, suc, _+_, _*_, _/_, _%_, _^_, _≤_, _<_}
-use mathlib.Core.Bool.{Bool, false, not, _&&_, cond}
+use Prim.Native.Nat.{ℕ, zero, suc, _+_, _*_, _/_, _%_, _^_}
+use mathlib.Core.Bool.{Bool, not, _&&_, cond}
 use mathlib.Core.List.{List}
-use lib.ListN.{getD}
 use lib.Dec.{ltb, eqb}
-use lib.Ieee.{Float, nan, inf, binary32, odd, ofBits, toBits}
-use lib.Ieee.Exact.{HasValue}
+use lib.Ieee.{Float, nan, inf, binary32, odd, toBits}
 use Rattle.fields.specs.Le.{u16At, u32At}
 
 abbrev pub sign : ℕ → ℕ
@@ -48,21 +46,7 @@ unfoldable pub widened : ℕ → ℕ
 unfolding halfValue toBits
 widened h = cond (isNanHalf h) (widenedNan h) (toBits binary32 (halfValue h))
 
--- the 32-bit pattern p stands for k times 2 to the minus 24, with the plus sign
-abbrev pub isTimes : ℕ → ℕ → Type 0
-isTimes k p = HasValue (ofBits binary32 p) false k (2 ^ 24)
-
--- "The 1,024 subnormal halves are widened by lookup: one entry a fraction, zero's among them": entry k is the pattern of the half k,
--- and stands for k times 2 to the minus 24
-unfoldable pub isTable : List ℕ → Type 0
+-- the 32-bit pattern of the stored value at a position of the file: a half where the width is 2, else the four bytes themselves
+unfoldable pub storedValue : List ℕ → ℕ → ℕ → ℕ
 unfolding widened
-isTable xs = (k : ℕ) → k < 1024 → (getD xs k 0 ≡ widened k) × isTimes k (getD xs k 0)
-
--- "Stored values take 2 bytes if .. else 4": an even number from 2 to 4, so 2 or 4
-abbrev pub isWidth : ℕ → Type 0
-isWidth width = (2 ≤ width) × (width ≤ 4) × (width % 2 ≡ 0)
-
--- the 32-bit pattern of the stored value of that width at a position of the file
-unfoldable pub storedValue : ℕ → List ℕ → ℕ → ℕ
-unfolding widened
-storedValue width s at = cond (eqb width 2) (widened (u16At s at)) (u32At s at)
+storedValue s width at = cond (eqb width 2) (widened (u16At s at)) (u32At s at)

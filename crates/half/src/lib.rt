@@ -2,7 +2,11 @@
 ghost use mathlib.Core.Path.{_≡_};
 ghost use Prim.Native.Nat.{_+_, _≤_, _<_, _^_};
 ghost use lib.ListN.{length};
-ghost use Rattle.half.specs.Half.{exponent, isTable, isTimes, isWidth, storedValue, widened};
+ghost use Rattle.fields.specs.Parse.{field};
+ghost use Rattle.fields.specs.Inner.{saysU32};
+ghost use Rattle.half.specs.Half.{exponent, storedValue, widened};
+ghost use Rattle.half.specs.Inner.{isTable, isTimes, isWidth};
+use fields::U32Field;
 
 // Entry k is the 32-bit pattern of k times 2 to the minus 24, the value of the subnormal half (zero among them) with the fraction k.
 const SUBNORMALS: [u32; 1024] = [
@@ -1041,7 +1045,7 @@ pub fn subnormals() -> [u32; 1024]
 }
 
 // Its caller has the table, and a fraction, which has ten bits.
-fn subnormal(table: &[u32; 1024], t: usize) -> u32
+fn subnormal(table: &[u32], t: usize) -> u32
     requires { ⌜ isTable (now table) × (t < 1024) ⌝ }
     ensures { λ r. ⌜ (r ≡ widened t) × isTimes t r × (r < 2 ^ 31) ⌝ }
 {
@@ -1049,7 +1053,7 @@ fn subnormal(table: &[u32; 1024], t: usize) -> u32
 }
 
 // A half with exponent 0: the fraction's entry, and the sign.
-fn widen_subnormal(table: &[u32; 1024], h: u16) -> u32
+fn widen_subnormal(table: &[u32], h: u16) -> u32
     requires { ⌜ isTable (now table) × (exponent h ≡ 0) ⌝ }
     ensures { λ r. ⌜ r ≡ widened h ⌝ }
 {
@@ -1081,7 +1085,7 @@ fn widen_normal(h: u16) -> u32
 }
 
 // With the table that the caller lends.
-pub fn widen_with(table: &[u32; 1024], h: u16) -> u32
+pub fn widen_with(table: &[u32], h: u16) -> u32
     requires { ⌜ isTable (now table) ⌝ }
     ensures { λ r. ⌜ r ≡ widened h ⌝ }
 {
@@ -1102,10 +1106,11 @@ pub fn widen(h: u16) -> u32
     widen_normal(h)
 }
 
-// The stored value that starts at a position, of 2 bytes or 4. The callers have tested that its bytes are there.
-pub fn value_with(table: &[u32; 1024], s: &[u8], at: usize, width: usize) -> u32
-    requires { ⌜ isTable (now table) × (at + width ≤ length (now s)) × isWidth width ⌝ }
-    ensures { λ r. ⌜ r ≡ storedValue width (now (s .entry)) at ⌝ }
+// The stored value that starts at a position, of 2 bytes or 4. The callers have tested that its bytes are there. The table is looked at for 2
+// bytes only, and need not be one for 4.
+pub fn value_with(table: &[u32], s: &[u8], at: usize, width: usize) -> u32
+    requires { ⌜ (width ≡ 2 → isTable (now table)) × (at + width ≤ length (now s)) × isWidth width ⌝ }
+    ensures { λ r. ⌜ r ≡ storedValue (now (s .entry)) width at ⌝ }
 {
     if width == 2 {
         return widen_with(table, fields::u16_at(s, at) as u16);
@@ -1116,10 +1121,21 @@ pub fn value_with(table: &[u32; 1024], s: &[u8], at: usize, width: usize) -> u32
 // One stored value, with no table lent.
 pub fn value_at(s: &[u8], at: usize, width: usize) -> u32
     requires { ⌜ (at + width ≤ length (now s)) × isWidth width ⌝ }
-    ensures { λ r. ⌜ r ≡ storedValue width (now (s .entry)) at ⌝ }
+    ensures { λ r. ⌜ r ≡ storedValue (now (s .entry)) width at ⌝ }
 {
-    if width == 2 {
-        return widen(fields::u16_at(s, at) as u16);
+    if width == 4 {
+        return fields::u32_at(s, at);
     }
-    fields::u32_at(s, at)
+    widen(fields::u16_at(s, at) as u16)
+}
+
+// The same as a field.
+pub fn read_value(s: &[u8], at: usize, width: usize) -> U32Field
+    requires { ⌜ isWidth width ⌝ }
+    ensures { λ r. ⌜ saysU32 r ≡ field (now (s .entry)) width (storedValue (now (s .entry)) width at) at ⌝ }
+{
+    if fields::remaining(s, at) < width {
+        return U32Field::Past;
+    }
+    U32Field::Got(value_at(s, at, width), at + width)
 }

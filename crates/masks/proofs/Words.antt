@@ -13,8 +13,8 @@ use lib.Count.{trailingZeros}
 use lib.Count
 use borrow.Author.Tests.{not-false}
 use Rattle.fields.specs.Le.{byteAt, u64At}
-use Rattle.masks.specs.Masks.{digit, maskBit, onesFrom, ones, countBelow, nextOne, isNil, agree, overlap}
-use Rattle.masks.specs.Words.{IsWord}
+use Rattle.masks.specs.Masks.{digit, maskBit, onesFrom, ones, countBelow, isNil, agree, overlap}
+use Rattle.masks.specs.Inner.{nextOne, IsWord}
 use Rattle.masks.proofs.Laws.{ones-append, ones-nil, nil-zero, ones-ext, length-shift, count-add, none-below, isNil-true, differ-false, next-here, next-later}
 use Rattle.masks.proofs.Digits.{digit-shift, digit-past, same-digits, zero-digits, word-lt, word-digit, mask-shift, count-digits, and-digit, trailing-zero, trailing-one, trailing-lt}
 

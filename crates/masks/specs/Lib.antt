@@ -1,2 +1,2 @@
 pub mod Masks
-pub mod Words
+pub mod Inner

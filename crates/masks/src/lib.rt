@@ -3,9 +3,8 @@
 // in the file.
 ghost use mathlib.Core.Path.{_≡_};
 ghost use Prim.Native.Nat.{_+_, _*_, _/_, _%_, _^_, _≤_, _<_};
-ghost use lib.ListN.{length};
-ghost use Rattle.masks.specs.Masks.{maskBit, IsMask, countBelow, zerosBelow, nextOne, saysNext, overlap, agree};
-ghost use Rattle.masks.specs.Words.{IsWord};
+ghost use Rattle.masks.specs.Masks.{maskBit, countBelow, overlap, agree};
+ghost use Rattle.masks.specs.Inner.{zerosBelow, IsMask, nextOne, saysNext, IsWord};
 use coordinates::Index;
 
 // The next one of a mask, if there is one.

@@ -1,2 +1,2 @@
 pub mod Metadata
-pub mod Answers
+pub mod Inner

@@ -1,4 +1,4 @@
--- Document 01, sections 4 and 6: a node's masks and stored values, and a leaf's block, with checks 18 and 20 of section 8.
+-- Sections 4 and 6: a node's masks and stored values, and a leaf's block, with checks 18 and 20 of section 8.
 use Prim.Native.Nat.{ℕ, _*_}
 use mathlib.Core.List.{List}
 use mathlib.Core.Bool.{Bool, false, not, _&&_}
@@ -16,14 +16,14 @@ use Rattle.nodes.specs.declared.NodeHeader.{NodeHeader}
 use Rattle.nodes.specs.declared.Leaf.{Leaf}
 use Rattle.nodes.specs.declared.Block.{Block}
 
--- "A node has child mask, value mask, stored values." Its masks have n bytes each; check 18 "child and value bit at one place" when both are
--- whole. Under 222 it stores one value for each place without a child.
-unfoldable pub nodeField : ℕ → List ℕ → Coding → ℕ → Parse NodeHeader
-nodeField n s c at =
-    then (bytesField s at n) λ child p.
-    then (bytesField s p n) λ value q.
+-- A node, with masks of n bytes: the child mask, the value mask, check 18 when both are whole, then the stored values; before version 222 these
+-- are one for each place without a child.
+unfoldable pub nodeField : List ℕ → Coding → ℕ → ℕ → Parse NodeHeader
+nodeField s c n at =
+    then (bytesField s n at) λ child p.
+    then (bytesField s n p) λ value q.
     check (not (overlap (maskBit s (child .start)) (maskBit s (value .start)) (8 * n))) 18
-    (then (valuesField c Childless s n (child .start) (value .start) q) λ values r.
+    (then (valuesField s c Childless n (child .start) (value .start) q) λ values r.
     got (record { child = child .start; value = value .start; values = values }) r)
 
 -- whether two integers, and two coordinates, are the same
@@ -37,25 +37,30 @@ unfoldable pub sameCoord : GlobalCoord → GlobalCoord → Bool
 sameCoord a b = sameInt (a .0) (b .0) && (sameInt (a .1) (b .1) && sameInt (a .2) (b .2))
 
 -- an origin read from the file
-abbrev pub coordOf : IVec3 → GlobalCoord
-coordOf v = (v .x, v .y, v .z)
+abbrev pub originOf : IVec3 → GlobalCoord
+originOf v = (v .x, v .y, v .z)
 
--- "under 222 three i32 origin and a buffer byte (1)": check 20 "origin not the computed one or buffers not 1"
-unfoldable pub oldField : ℕ → GlobalCoord → List ℕ → ℕ → Parse Unit
-oldField version origin s at =
+-- What a block has before version 222 only: its leaf's origin, and a count of buffers, which is 1; check 20 on each.
+unfoldable pub buffersField : List ℕ → ℕ → Parse Unit
+buffersField s at =
+    then (u8Field s at) λ buffers p.
+    check (eqb buffers 1) 20
+    (got tt p)
+
+unfoldable pub oldField : List ℕ → ℕ → GlobalCoord → ℕ → Parse Unit
+oldField s version origin at =
     when (ltb version 222)
     (then (iVec3Field s at) λ v p.
-    check (sameCoord (coordOf v) origin) 20
-    (then (u8Field s p) λ buffers q.
-    check (eqb buffers 1) 20
-    (got tt q)))
+    check (sameCoord (originOf v) origin) 20
+    (buffersField s p))
     (got tt at)
 
--- a leaf's block: "64-byte mask", check 20 "leaf mask differs from topology"; what stands under 222; "stored values", under 222 all 512
+-- A leaf's block: its value mask once more, which has to be the topology's (check 20); what stands there before version 222; the stored values,
+-- before version 222 all 512.
 unfoldable pub blockField : List ℕ → Coding → Leaf → ℕ → Parse Block
 blockField s c leaf at =
-    then (bytesField s at 64) λ mask p.
+    then (bytesField s 64 at) λ mask p.
     check (agree (maskBit s (mask .start)) (maskBit s (leaf .mask)) 512) 20
-    (then (oldField (c .version) (leaf .origin) s p) λ u q.
-    then (valuesField c Every s 64 (mask .start) (mask .start) q) λ values r.
+    (then (oldField s (c .version) (leaf .origin) p) λ u q.
+    then (valuesField s c Every 64 (mask .start) (mask .start) q) λ values r.
     got (record { origin = leaf .origin; mask = mask .start; values = values }) r)

@@ -1,11 +1,13 @@
 // Document 01, sections 4 and 6: a node's masks and stored values, and a leaf's block.
 ghost use mathlib.Core.Path.{_≡_};
 ghost use Prim.Native.Nat.{_≤_, _%_};
-ghost use Rattle.half.specs.Half.{isWidth};
-ghost use Rattle.masks.specs.Masks.{IsMask};
-ghost use Rattle.nodes.specs.Nodes.{nodeField, sameInt, sameCoord, oldField, blockField};
-ghost use Rattle.nodes.specs.Answers.{valuesRefusal, saysNode, saysOld, oldRefusal, saysBlock};
+ghost use Rattle.half.specs.Inner.{isWidth};
+ghost use Rattle.masks.specs.Masks.{maskBit, countBelow};
+ghost use Rattle.masks.specs.Inner.{IsMask};
+ghost use Rattle.nodes.specs.Nodes.{nodeField, sameCoord, originOf, buffersField, oldField, blockField};
+ghost use Rattle.nodes.specs.Inner.{saysNode, saysOld, saysBlock};
 use coordinates::GlobalCoord;
+use fields::IVec3;
 use fields::IVec3Field;
 use fields::SpanField;
 use fields::U8Field;
@@ -49,20 +51,10 @@ pub enum BlockField {
     Refused(u32),
 }
 
-// The check that refused stored values; 0 where none did.
-fn values_refusal(a: ValuesField) -> u32
-    ensures { λ r. ⌜ r ≡ valuesRefusal a ⌝ }
-{
-    match a {
-        ValuesField::Got(_, _) => 0,
-        ValuesField::Refused(k) => k,
-    }
-}
-
 // A node whose masks have n bytes each.
 pub fn read_node_header(s: &[u8], c: Coding, n: usize, at: usize) -> NodeField
     requires { ⌜ (n % 8 ≡ 0) × (n ≤ 4096) × isWidth (c .width) ⌝ }
-    ensures { λ r. ⌜ saysNode r ≡ nodeField n (now (s .entry)) c at ⌝ }
+    ensures { λ r. ⌜ saysNode r ≡ nodeField (now (s .entry)) c n at ⌝ }
 {
     let SpanField::Got(child_mask, p) = fields::read_bytes(s, at, n) else {
         return NodeField::Refused(2);
@@ -75,73 +67,70 @@ pub fn read_node_header(s: &[u8], c: Coding, n: usize, at: usize) -> NodeField
     if masks::masks_overlap(s, child, value, n) {
         return NodeField::Refused(18);
     }
-    let values_field = values::read_values(s, c, Stored::Childless, n, child, value, q);
-    let ValuesField::Got(values, r) = values_field else {
-        return NodeField::Refused(values_refusal(values_field));
-    };
-    NodeField::Got(
-        NodeHeader {
-            child,
-            value,
-            values,
-        },
-        r,
-    )
+    match values::read_values(s, c, Stored::Childless, n, child, value, q) {
+        ValuesField::Got(values, r) => NodeField::Got(
+            NodeHeader {
+                child,
+                value,
+                values,
+            },
+            r,
+        ),
+        ValuesField::Refused(k) => NodeField::Refused(k),
+    }
 }
 
-fn same_int(a: i32, b: i32) -> bool
-    ensures { λ r. ⌜ r ≡ sameInt a b ⌝ }
-{
-    a == b
-}
-
+// Whether two coordinates are the same.
 pub fn same_coord(a: GlobalCoord, b: GlobalCoord) -> bool
     ensures { λ r. ⌜ r ≡ sameCoord a b ⌝ }
 {
-    if !same_int(a.0, b.0) {
-        return false;
-    }
-    if !same_int(a.1, b.1) {
-        return false;
-    }
-    same_int(a.2, b.2)
+    (a.0 == b.0) & ((a.1 == b.1) & (a.2 == b.2))
 }
 
-// What a block has between its mask and its values under 222.
+// An origin read from the file.
+pub fn origin_of(v: IVec3) -> GlobalCoord
+    ensures { λ r. ⌜ r ≡ originOf v ⌝ }
+{
+    GlobalCoord(v.x, v.y, v.z)
+}
+
+// The count of buffers that a block has under 222.
+fn read_buffers(s: &[u8], at: usize) -> OldField
+    ensures { λ r. ⌜ saysOld r ≡ buffersField (now (s .entry)) at ⌝ }
+{
+    match fields::read_u8(s, at) {
+        U8Field::Past => OldField::Refused(2),
+        U8Field::Got(buffers, p) => {
+            if buffers == 1 {
+                return OldField::Got(p);
+            }
+            OldField::Refused(20)
+        }
+    }
+}
+
+// What a block has between its mask and its values under 222: its leaf's origin and a count of buffers.
 fn read_old(s: &[u8], version: u32, origin: GlobalCoord, at: usize) -> OldField
-    ensures { λ r. ⌜ saysOld r ≡ oldField version origin (now (s .entry)) at ⌝ }
+    ensures { λ r. ⌜ saysOld r ≡ oldField (now (s .entry)) version origin at ⌝ }
 {
     if 222 <= version {
         return OldField::Got(at);
     }
-    let IVec3Field::Got(v, p) = fields::read_i_vec3(s, at) else {
-        return OldField::Refused(2);
-    };
-    if !same_coord(GlobalCoord(v.x, v.y, v.z), origin) {
-        return OldField::Refused(20);
-    }
-    let U8Field::Got(buffers, q) = fields::read_u8(s, p) else {
-        return OldField::Refused(2);
-    };
-    if buffers != 1 {
-        return OldField::Refused(20);
-    }
-    OldField::Got(q)
-}
-
-// The check that refused what stands there under 222; 0 where none did.
-fn old_refusal(a: OldField) -> u32
-    ensures { λ r. ⌜ r ≡ oldRefusal a ⌝ }
-{
-    match a {
-        OldField::Got(_) => 0,
-        OldField::Refused(k) => k,
+    match fields::read_i_vec3(s, at) {
+        IVec3Field::Past => OldField::Refused(2),
+        IVec3Field::Got(v, p) => {
+            if same_coord(origin_of(v), origin) {
+                return read_buffers(s, p);
+            }
+            OldField::Refused(20)
+        }
     }
 }
 
-// The block of a leaf, whose mask in the topology has been tested to lie in the file.
-pub fn read_block(s: &[u8], c: Coding, leaf: Leaf, at: usize) -> BlockField
-    requires { ⌜ IsMask (now s) (leaf .mask) 64 × isWidth (c .width) ⌝ }
+// The block of a leaf, whose mask in the topology has been tested to lie in the file and has so many ones. Where the block ends follows from
+// that count, so that the next block is found before this one's mask is there.
+pub fn read_counted_block(s: &[u8], c: Coding, leaf: Leaf, ones: usize, at: usize) -> BlockField
+    requires { ⌜ IsMask (now s) (leaf .mask) 64 × isWidth (c .width) × (ones ≡ countBelow (maskBit (now s) (leaf .mask)) 512) ⌝ }
     ensures { λ r. ⌜ saysBlock r ≡ blockField (now (s .entry)) c leaf at ⌝ }
 {
     let SpanField::Got(block_mask, p) = fields::read_bytes(s, at, 64) else {
@@ -153,20 +142,30 @@ pub fn read_block(s: &[u8], c: Coding, leaf: Leaf, at: usize) -> BlockField
         return BlockField::Refused(20);
     }
     let origin = leaf.origin;
-    let old_field = read_old(s, c.version, origin, p);
-    let OldField::Got(q) = old_field else {
-        return BlockField::Refused(old_refusal(old_field));
-    };
-    let values_field = values::read_values(s, c, Stored::Every, 64, mask, mask, q);
-    let ValuesField::Got(values, r) = values_field else {
-        return BlockField::Refused(values_refusal(values_field));
-    };
-    BlockField::Got(
-        Block {
-            origin,
-            mask,
-            values,
-        },
-        r,
-    )
+    match read_old(s, c.version, origin, p) {
+        OldField::Refused(k) => BlockField::Refused(k),
+        OldField::Got(q) => {
+            match values::read_counted(s, c, Stored::Every, 64, mask, mask, ones, q) {
+                ValuesField::Refused(k) => BlockField::Refused(k),
+                ValuesField::Got(values, r) => BlockField::Got(
+                    Block {
+                        origin,
+                        mask,
+                        values,
+                    },
+                    r,
+                ),
+            }
+        }
+    }
+}
+
+// The same, with the ones counted here.
+pub fn read_block(s: &[u8], c: Coding, leaf: Leaf, at: usize) -> BlockField
+    requires { ⌜ IsMask (now s) (leaf .mask) 64 × isWidth (c .width) ⌝ }
+    ensures { λ r. ⌜ saysBlock r ≡ blockField (now (s .entry)) c leaf at ⌝ }
+{
+    let mask = leaf.mask;
+    let ones = masks::count_ones(s, mask, 64) as usize;
+    read_counted_block(s, c, leaf, ones, at)
 }

@@ -1,18 +1,19 @@
 -- Laws of the definitions, by which the functions' proofs go.
-use mathlib.Core.Path.{_≡_, sym, ap, _∙_}
+use mathlib.Core.Path.{_≡_}
 use mathlib.Core.List.{List}
 use Prim.Native.Nat.{ℕ}
 use Rattle.fields.specs.Parse.{Parse}
 use Rattle.fields.proofs.Ends.{Ends, fails-ends, field-ends, then-ends, made-ends, string-ends}
-use Rattle.transform.specs.Transform.{scaleField, scaleTranslateField, mapField, transform}
-use Rattle.transform.specs.declared.Kind.{Kind}
-use Rattle.transform.specs.declared.Kind.the-variants as K
+use Rattle.transform.specs.Transform.{mapKindField, scaleField, scaleTranslateField, mapField, transform}
+use Rattle.transform.specs.declared.MapKind.{MapKind}
+use Rattle.transform.specs.declared.MapKind.the-variants as K
 use Rattle.transform.specs.declared.Map.{Map}
 
 -- a map is read by its kind, however that is known
-pub of-kind : {kind kind′ : Kind} (s : List ℕ) (at : ℕ) {x : Parse Map} → kind ≡ kind′ → x ≡ mapField kind′ s at → x ≡ mapField kind s at
-of-kind s at e h = h ∙ ap (λ (kind : Kind). mapField kind s at) (sym e)
+pub of-kind : {kind kind′ : MapKind} (s : List ℕ) (at : ℕ) {x : Parse Map} → kind ≡ kind′ → x ≡ mapField s kind′ at → x ≡ mapField s kind at
+of-kind s at e h = rw e h
 
+-- where a map's parts end
 scale-ends : (s : List ℕ) (at : ℕ) → Ends s at (scaleField s at)
 unfolding scaleField
 scale-ends s at =
@@ -22,19 +23,13 @@ scale-ends s at =
     then-ends s r _ _ (field-ends s r _ _) λ sqr t _.
     made-ends s t _ _ (field-ends s t _ _)
 
-scale-translate-ends : (s : List ℕ) (at : ℕ) → Ends s at (scaleTranslateField s at)
-unfolding scaleTranslateField
-scale-translate-ends s at =
-    then-ends s at _ _ (field-ends s at _ _) λ t p _.
-    made-ends s p _ _ (scale-ends s p)
-
-map-ends : (kind : Kind) (s : List ℕ) (at : ℕ) → Ends s at (mapField kind s at)
-unfolding mapField
+map-ends : (kind : MapKind) (s : List ℕ) (at : ℕ) → Ends s at (mapField s kind at)
+unfolding mapField scaleTranslateField
 map-ends K.Scale s at = made-ends s at _ _ (scale-ends s at)
-map-ends K.ScaleTranslate s at = made-ends s at _ _ (scale-translate-ends s at)
+map-ends K.ScaleTranslate s at = made-ends s at _ _ (then-ends s at _ _ (field-ends s at _ _) λ t p _. made-ends s p _ _ (scale-ends s p))
 map-ends K.Other s at = fails-ends s at 14
 
 -- the position after a transform lies in the file
 pub transform-ends : (s : List ℕ) (at : ℕ) → Ends s at (transform s at)
-unfolding transform
-transform-ends s at = then-ends s at _ _ (string-ends s at) λ name p _. map-ends _ s p
+unfolding transform mapKindField
+transform-ends s at = then-ends s at _ _ (made-ends s at _ _ (string-ends s at)) λ kind p _. map-ends kind s p

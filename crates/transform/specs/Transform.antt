@@ -1,25 +1,28 @@
--- Document 01, section 3: "The transform is one of two maps, each with its doubles."
+-- Section 3: the transform, a map of one of two shapes with its vectors of doubles.
 use Prim.Native.Nat.{ℕ}
 use mathlib.Core.List.{List}
 use Rattle.fields.specs.Parse.{Parse, got, fails, then, when}
 use Rattle.fields.specs.Fields.{dVec3Field, stringField, bytesOf, sameBytes, ascii}
 use Rattle.fields.specs.declared.DVec3.{DVec3}
-use Rattle.transform.specs.declared.Kind.{Kind}
-use Rattle.transform.specs.declared.Kind.the-variants as K
+use Rattle.transform.specs.declared.MapKind.{MapKind}
+use Rattle.transform.specs.declared.MapKind.the-variants as K
 use Rattle.transform.specs.declared.Scale.{Scale}
 use Rattle.transform.specs.declared.ScaleTranslate.{ScaleTranslate}
 use Rattle.transform.specs.declared.Map.{Map}
 use Rattle.transform.specs.declared.Map.the-variants as M
 
--- "`UniformScaleMap` and `ScaleMap` hold five vectors, `UniformScaleTranslateMap` and `ScaleTranslateMap` six"
-unfoldable pub kindOf : List ℕ → Kind
-kindOf name =
+-- the shape that a map's name stands for: two names for five vectors, two for six
+unfoldable pub mapKind : List ℕ → MapKind
+mapKind name =
     when (sameBytes name (ascii "UniformScaleMap")) K.Scale
     (when (sameBytes name (ascii "ScaleMap")) K.Scale
     (when (sameBytes name (ascii "UniformScaleTranslateMap")) K.ScaleTranslate
     (when (sameBytes name (ascii "ScaleTranslateMap")) K.ScaleTranslate K.Other)))
 
--- the five vectors, "in the order of transform.rs"
+unfoldable pub mapKindField : List ℕ → ℕ → Parse MapKind
+mapKindField s at = then (stringField s at) λ name p. got (mapKind (bytesOf s name)) p
+
+-- the five vectors, named as in the Rust's transform and in its order
 unfoldable pub scaleField : List ℕ → ℕ → Parse Scale
 scaleField s at =
     then (dVec3Field s at) λ values p.
@@ -40,21 +43,21 @@ translated t v = record {
   «inv_twice_scale» = v .«inv_twice_scale»;
 }
 
--- "six, translation first"
+-- the six vectors: the translation stands before the five
 unfoldable pub scaleTranslateField : List ℕ → ℕ → Parse ScaleTranslate
 scaleTranslateField s at =
     then (dVec3Field s at) λ t p.
     then (scaleField s p) λ v n.
     got (translated t v) n
 
--- the vectors of a map of this kind; section 8, check 14: "other map name"
-unfoldable pub mapField : Kind → List ℕ → ℕ → Parse Map
-mapField K.Scale s at = then (scaleField s at) λ v n. got (M.UniformScaleMap v) n
-mapField K.ScaleTranslate s at = then (scaleTranslateField s at) λ v n. got (M.ScaleTranslateMap v) n
-mapField K.Other s at = fails 14
+-- the vectors of a map of this shape; any other name is check 14
+unfoldable pub mapField : List ℕ → MapKind → ℕ → Parse Map
+mapField s K.Scale at = then (scaleField s at) λ v n. got (M.UniformScaleMap v) n
+mapField s K.ScaleTranslate at = then (scaleTranslateField s at) λ v n. got (M.ScaleTranslateMap v) n
+mapField s K.Other at = fails 14
 
--- a name, then that map's vectors
+-- a map's name, then its vectors
 unfoldable pub transform : List ℕ → ℕ → Parse Map
 transform s at =
-    then (stringField s at) λ name p.
-    mapField (kindOf (bytesOf s name)) s p
+    then (mapKindField s at) λ kind p.
+    mapField s kind p

@@ -1,108 +1,35 @@
 -- What one pass over a tree counts is what the tree's definitions say: its tiles, its blocks, and the length of the active list.
 use mathlib.Core.Path.{_≡_, refl, sym, ap, _∙_}
 use mathlib.Core.Option.{Option, none, some}
-use mathlib.Core.List.{List, [], _∷_, _++_}
-use mathlib.Core.Bool.{Bool, true, false}
+use mathlib.Core.List.{List, [], _∷_, _++_, map}
 use Prim.Native.Nat.{ℕ, zero, suc, _+_, _*_, _≤_, _<_}
 use native.Mathlib.Numerals.{add-one, unary-clauses}
 use native.Mathlib.Omega.{arith}
-use lib.Dec.{eqb, leb}
+use lib.Dec.{eqb}
 use lib.ListN.{length, getElem?, length-append, length-map}
-use borrow.Author.Tests.{leb-true, leb-false, le-leb, eq-eqb, ne-eqb}
-use Rattle.fields.specs.Parse.{Parse, got, fails, then, when, check, field, many}
-use Rattle.fields.specs.Fields.{bytesField}
-use Rattle.fields.proofs.Laws.{then-got, then-then, Every, then-every, got-every, field-past}
-use Rattle.fields.proofs.Ends.{field-ends}
-use Rattle.fields.specs.Le.{u32At}
+use borrow.Author.Tests.{eq-eqb, ne-eqb}
+use Rattle.fields.specs.Parse.{Parse, got, then, when, many}
+use Rattle.fields.proofs.Laws.{then-got, then-then, then-cong, then-done, through, made, Always, then-always, got-always}
+use Rattle.coordinates.specs.Coordinates.{places}
 use Rattle.masks.specs.Masks.{maskBit, countBelow}
 use Rattle.values.specs.declared.Coding.{Coding}
-use Rattle.coordinates.specs.declared.GlobalCoord.{GlobalCoord}
 use Rattle.nodes.specs.Nodes.{blockField}
 use Rattle.nodes.specs.declared.Leaf.{Leaf}
 use Rattle.nodes.specs.declared.Block.{Block}
-use Rattle.tree.specs.Topology.{Node4, Node5, rootsField, tilesField, topology}
+use Rattle.tree.specs.Topology.{Node4, Node5}
 use Rattle.tree.specs.Blocks.{Filled5, filled4, filled5, blocksField}
-use Rattle.tree.specs.Active.{joined, voxels, tiles, active4, active5, activeList, allBlocks}
-use Rattle.tree.specs.Passing.{Totals, Summary, over, plusBlock, blockAfter, plusLeaf, plusTiles, plus4, plus5, noTotals, passingRoots, passingTree, traversedOf}
-
--- Steps of a parse that keep an equation: of what follows the same parse, and of the same check.
-module _ {A B : Type 0} where
-  then-cong : (m : Parse A) (f g : A → ℕ → Parse B) → ((a : A) (n : ℕ) → got a n ≡ m → f a n ≡ g a n) → then m f ≡ then m g
-  unfolding then
-  then-cong (got a n) f g h = h a n refl
-  then-cong (fails k) f g h = refl
-
-  check-then : (ok : Bool) (k : ℕ) (q : Parse B) (p : Parse A) (f : A → ℕ → Parse B) → q ≡ then p f → check ok k q ≡ then (check ok k p) f
-  unfolding check then
-  check-then true k q p f e = e
-  check-then false k q p f e = refl
-
-then-done : {A : Type 0} (m : Parse A) → m ≡ then m (λ a n. got a n)
-unfolding then
-then-done (got a n) = refl
-then-done (fails k) = refl
-
-through :
-    {A B C : Type 0} (m : Parse A) (h : A → ℕ → Parse C) (g : A → ℕ → Parse B) (f : B → ℕ → Parse C) → ((a : A) (n : ℕ) → got a n ≡ m → h a n ≡ then (g a n) f) →
-    then m h ≡ then (then m g) f
-through m h g f e = then-cong m _ _ e ∙ sym (then-then m g f)
-
-made :
-    {A B C : Type 0} (m : Parse A) (h : A → C) (g : A → B) (f : B → C) → ((a : A) (n : ℕ) → got a n ≡ m → h a ≡ f (g a)) →
-    then m (λ a n. got (h a) n) ≡ then (then m (λ a n. got (g a) n)) (λ b n. got (f b) n)
-unfolding then
-made (got a n) h g f e = ap (λ (c : _). got c n) (e a n refl)
-made (fails k) h g f e = refl
-
--- 1. The tiles passed over one by one are one field.
-tiles-field : (k : ℕ) (s : List ℕ) (at : ℕ) → at ≤ length s → tilesField k s at ≡ field s at (17 * k) tt
-unfolding tilesField then field check
-tiles-field zero s at h =
-    let n : at + 0 ≡ at = omega arith in
-    rw (n, le-leb _ _ h)
-tiles-field (suc k) s at h = go (leb (at + 17) (length s)) refl (tiles-field k s (at + 17))
-  where
-    go : (b : Bool) → leb (at + 17) (length s) ≡ b → (at + 17 ≤ length s → tilesField k s (at + 17) ≡ field s (at + 17) (17 * k) tt) →
-        then (bytesField s at 17) (λ tile p. tilesField k s p) ≡ field s at (17 * suc k) tt
-    go true e later =
-        let n : at + 17 + 17 * k ≡ at + 17 * suc k = omega arith in
-        rw (e, ← n) (later (leb-true _ _ e))
-    go false e later =
-        let n : length s < at + 17 * suc k = omega (arith, leb-false) in
-        rw e (field-past s at (17 * suc k) tt n)
-
-pub tiles-passed : (k : ℕ) (s : List ℕ) (at : ℕ) → at ≤ length s → tilesField k s at ≡ then (bytesField s at (17 * k)) (λ w p. got tt p)
-unfolding field then
-tiles-passed k s at h = tiles-field k s at h ∙ check-then _ _ _ _ _ refl
-
-tiles-then : {A : Type 0} (k : ℕ) (s : List ℕ) (at : ℕ) (f : ℕ → Parse A) → at ≤ length s → then (bytesField s at (17 * k)) (λ w p. f p) ≡ then (tilesField k s at) (λ w p. f p)
-tiles-then k s at f h = rw (tiles-passed k s at h) (through _ _ _ _ λ w p d. then-got _ refl refl)
-
--- 2. The pass over a tree is the topology with its totals.
-roots-length : (k : ℕ) (earlier : List GlobalCoord) (s : List ℕ) (c : Coding) (at : ℕ) → Every (λ ns p. length ns ≡ k) (rootsField k earlier s c at)
-unfolding rootsField
-roots-length zero earlier s c at = got-every _ _ _ refl
-roots-length (suc k) earlier s c at =
-    then-every _ _ _ λ n p e. then-every _ _ _ λ ns q f. got-every _ _ _ (ap suc (roots-length k (earlier ++ (n .origin ∷ [])) s c p ns q f))
-
-pub tree-passed :
-    (s : List ℕ) (c : Coding) (wanted block at : ℕ) →
-    passingTree s c wanted block at ≡ then (topology s c at) (λ t n. got (traversedOf s c wanted block t) n)
-unfolding passingTree topology passingRoots
-tree-passed s c wanted block at =
-    through _ _ _ _ λ buffers p d. check-then _ _ _ _ _
-    (through _ _ _ _ λ background q d. through _ _ _ _ λ tiles r d. through _ _ _ _ λ count t d. check-then _ _ _ _ _
-    (tiles-then tiles s t _ (field-ends s r 4 (u32At s r) count t d .1)
-    ∙ through _ _ _ _ λ w u d.
-    sym (made _ _ _ _ λ ns v d. refl)
-    ∙ made _ _ _ _ λ ns v d.
-    ap (λ (k : ℕ). record { background = background; rootsPos = u; rootCount = k; totals = over (plus5 s c wanted) (noTotals block) ns })
-    (sym (roots-length count [] s c u ns v d))))
+use Rattle.tree.specs.Active.{Piece, joined, edgeOf, pieces4, pieces5, pieces, recordsOf, activeList, allBlocks}
+use Rattle.tree.specs.Inner.{Totals, Summary, over, plusBlock, blockAfter, plusLeaf, plusTiles, plus4, plus5, noTotals}
 
 -- A sum over a list; of a list of lists, the lengths' sum is the length.
 total : {A : Type 0} → (A → ℕ) → List A → ℕ
 total w [] = 0
 total w (a ∷ rest) = w a + total w rest
+
+total-append : {A : Type 0} (w : A → ℕ) (x y : List A) → total w (x ++ y) ≡ total w x + total w y
+unfolding total
+total-append w [] y = omega arith
+total-append w (a ∷ x) y = omega (arith, total-append w x y)
 
 module _ {A B : Type 0} where
   length-joined : (f : A → List B) (l : List A) → length (joined f l) ≡ total (λ a. length (f a)) l
@@ -110,14 +37,15 @@ module _ {A B : Type 0} where
   length-joined f [] = refl
   length-joined f (a ∷ rest) = rw (length-append, length-joined f rest)
 
+  total-map : (w : B → ℕ) (f : A → B) (l : List A) → total w (map f l) ≡ total (λ a. w (f a)) l
+  unfolding total
+  total-map w f [] = refl
+  total-map w f (a ∷ rest) = rw (total-map w f rest)
+
   total-joined : (w : B → ℕ) (f : A → List B) (l : List A) → total w (joined f l) ≡ total (λ a. total w (f a)) l
   unfolding joined total
   total-joined w f [] = refl
-  total-joined w f (a ∷ rest) = rw (total-append (f a) (joined f rest), total-joined w f rest)
-    where
-      total-append : (x y : List B) → total w (x ++ y) ≡ total w x + total w y
-      total-append [] y = omega arith
-      total-append (b ∷ x) y = omega (arith, total-append x y)
+  total-joined w f (a ∷ rest) = rw (total-append w (f a) (joined f rest), total-joined w f rest)
 
   -- what each member adds, all of them add together
   over-total : (f : A → B → A) (value : A → ℕ) (w : B → ℕ) → ((a : A) (b : B) → value (f a b) ≡ value a + w b) → (l : List B) (a : A) → value (over f a l) ≡ value a + total w l
@@ -132,12 +60,12 @@ module _ {A B : Type 0} where
 
   -- a sum over what a run of parses gets
   many-total :
-      (g : A → ℕ → Parse B) (all v : B → ℕ) (w : A → ℕ) → ((a : A) (at : ℕ) → Every (λ b n. all b ≡ w a + v b) (g a at)) → (l : List A) (at : ℕ) →
-      Every (λ bs n. total all bs ≡ total w l + total v bs) (many g l at)
+      (g : A → ℕ → Parse B) (all v : B → ℕ) (w : A → ℕ) → ((a : A) (at : ℕ) → Always (λ b n. all b ≡ w a + v b) (g a at)) → (l : List A) (at : ℕ) →
+      Always (λ bs n. total all bs ≡ total w l + total v bs) (many g l at)
   unfolding many total
-  many-total g all v w h [] at = got-every _ _ _ refl
+  many-total g all v w h [] at = got-always _ _ _ refl
   many-total g all v w h (a ∷ rest) at =
-      then-every _ _ _ λ b p d. then-every _ _ _ λ bs q e. got-every _ _ _ (omega (arith, h a at b p d, many-total g all v w h rest p bs q e))
+      then-always _ _ _ λ b p d. then-always _ _ _ λ bs q e. got-always _ _ _ (omega (arith, h a at b p d, many-total g all v w h rest p bs q e))
 
 total-same : {A : Type 0} (k : ℕ) (l : List A) → total (λ a. k) l ≡ k * length l
 unfolding total
@@ -149,12 +77,13 @@ unfolding joined
 joined-single [] = refl
 joined-single (a ∷ rest) = ap (λ (l : List _). a ∷ l) (joined-single rest)
 
--- 3. The blocks passed beside the topology are the blocks read in topology order: what holds for one member holds for a list of them.
+-- 1. The blocks passed beside the topology are the blocks read in topology order: what holds for one member holds for a list of them.
 module _ (s : List ℕ) (wanted : ℕ) where
   abbrev summary : Summary → List Block → Summary
   summary m bs = over (plusBlock s wanted) m bs
 
-  module _ {A B : Type 0} (plus : Totals → A → Totals) (g : A → ℕ → Parse B) (blocks : B → List Block) (one : (t : Totals) (a : A) → plus t a .blocks ≡ then (t .blocks) (λ m p. then (g a p) (λ x q. got (summary m (blocks x)) q))) where
+  module _ {A B : Type 0} (plus : Totals → A → Totals) (g : A → ℕ → Parse B) (blocks : B → List Block)
+      (one : (t : Totals) (a : A) → plus t a .blocks ≡ then (t .blocks) (λ m p. then (g a p) (λ x q. got (summary m (blocks x)) q))) where
     over-blocks : (l : List A) (t : Totals) → over plus t l .blocks ≡ then (t .blocks) (λ m p. then (many g l p) (λ xs q. got (summary m (joined blocks xs)) q))
     unfolding over many joined
     over-blocks [] t = then-done (t .blocks) ∙ then-cong _ _ _ λ m p d. then-got _ refl refl
@@ -187,7 +116,7 @@ module _ (s : List ℕ) (c : Coding) (wanted : ℕ) where
   unfolding then allBlocks
   blocks-passed block roots = over-blocks s wanted (plus5 s c wanted) (filled5 s c) (λ f. joined (λ g. g .blocks) (f .nodes)) node5-blocks roots (noTotals block)
 
--- 4. What the summary of a list of blocks says.
+-- 2. What the summary of a list of blocks says.
 module _ (s : List ℕ) (wanted : ℕ) where
   pub summary-leaves : (bs : List Block) (m : Summary) → over (plusBlock s wanted) m bs .leaves ≡ m .leaves + length bs
   summary-leaves bs m = omega (arith, over-total (plusBlock s wanted) (λ m. m .leaves) (λ b. 1) (λ m b. refl) bs m, total-same 1 bs)
@@ -220,7 +149,7 @@ module _ (s : List ℕ) (wanted : ℕ) where
   pub found-at : (bs : List Block) → over (plusBlock s wanted) (record { leaves = 0; voxels = 0; found = none }) bs .found ≡ getElem? bs wanted
   found-at bs = wanted-found bs _ wanted (omega arith) refl
 
--- 5. The length of the active list.
+-- 3. The length of the active list.
 module _ (s : List ℕ) (c : Coding) (wanted : ℕ) where
   abbrev voxels-of : List Block → ℕ
   voxels-of bs = total (λ b. countBelow (maskBit s (b .mask)) 512) bs
@@ -231,34 +160,42 @@ module _ (s : List ℕ) (c : Coding) (wanted : ℕ) where
   abbrev tiles5 : Node5 → ℕ
   tiles5 n = countBelow (maskBit s (n .header .value)) 32768 + total tiles4 (n .nodes)
 
-  node4-tiles : (t : Totals) (n : Node4) → plus4 s c wanted t n .tiles ≡ t .tiles + tiles4 n
+  node4-tiles : (t : Totals) (n : Node4) → plus4 s c wanted t n .activeTiles ≡ t .activeTiles + tiles4 n
   unfolding plus4
   node4-tiles t n =
-      let leaves = over-total (plusLeaf s c wanted) (λ t. t .tiles) (λ l. 0) (λ t l. omega arith) (n .leaves) (plusTiles t (tiles4 n)) in
+      let leaves = over-total (plusLeaf s c wanted) (λ t. t .activeTiles) (λ l. 0) (λ t l. omega arith) (n .leaves) (plusTiles t (tiles4 n)) in
       omega (arith, leaves, total-same 0 (n .leaves))
 
-  node5-tiles : (t : Totals) (n : Node5) → plus5 s c wanted t n .tiles ≡ t .tiles + tiles5 n
+  node5-tiles : (t : Totals) (n : Node5) → plus5 s c wanted t n .activeTiles ≡ t .activeTiles + tiles5 n
   unfolding plus5
   node5-tiles t n =
-      omega (arith, over-total (plus4 s c wanted) (λ t. t .tiles) tiles4 node4-tiles (n .nodes) (plusTiles t (countBelow (maskBit s (n .header .value)) 32768)))
+      omega (arith, over-total (plus4 s c wanted) (λ t. t .activeTiles) tiles4 node4-tiles (n .nodes) (plusTiles t (countBelow (maskBit s (n .header .value)) 32768)))
 
-  filled4-length : (n : Node4) (at : ℕ) → Every (λ f p. length (active4 s c f) ≡ tiles4 n + voxels-of (f .blocks)) (filled4 s c n at)
-  unfolding filled4 active4 voxels tiles
-  filled4-length n at = then-every _ _ _ λ bs p d. got-every _ _ _ (simp (length-append, length-joined, length-map) (omega arith))
+  -- how many records a piece has
+  abbrev weight : Piece → ℕ
+  weight q = countBelow (maskBit s (q .value)) (places (edgeOf (q .level)))
 
-  filled5-length : (n : Node5) (at : ℕ) → Every (λ f p. length (active5 s c f) ≡ tiles5 n + voxels-of (joined (λ g. g .blocks) (f .nodes))) (filled5 s c n at)
-  unfolding filled5 active5 tiles
-  filled5-length n at = then-every _ _ _ λ fs p d. got-every _ _ _
-      (let nodes = many-total (filled4 s c) (λ f. length (active4 s c f)) (λ f. voxels-of (f .blocks)) tiles4 filled4-length (n .nodes) at fs p d in
-      simp (length-append, length-joined, length-map, total-joined) (omega arith))
+  filled4-length : (n : Node4) (at : ℕ) → Always (λ f p. total weight (pieces4 f) ≡ tiles4 n + voxels-of (f .blocks)) (filled4 s c n at)
+  unfolding filled4 pieces4 total
+  filled4-length n at = then-always _ _ _ λ bs p d. got-always _ _ _ (simp (total-append, total-map) (omega arith))
+
+  filled5-length : (n : Node5) (at : ℕ) → Always (λ f p. total weight (pieces5 f) ≡ tiles5 n + voxels-of (joined (λ g. g .blocks) (f .nodes))) (filled5 s c n at)
+  unfolding filled5 pieces5 total
+  filled5-length n at = then-always _ _ _ λ fs p d. got-always _ _ _
+      (let nodes = many-total (filled4 s c) (λ f. total weight (pieces4 f)) (λ f. voxels-of (f .blocks)) tiles4 filled4-length (n .nodes) at fs p d in
+      simp (total-append, total-joined) (omega arith))
+
+  list-length : (fs : List Filled5) → length (activeList s c fs) ≡ total (λ f. total weight (pieces5 f)) fs
+  unfolding recordsOf pieces
+  list-length fs = length-joined (recordsOf s c) (pieces fs) ∙ simp length-map (total-joined weight pieces5 fs)
 
   pub active-length :
       (block : ℕ) (roots : List Node5) (fs : List Filled5) (p : ℕ) → got fs p ≡ blocksField s c roots block →
       length (activeList s c fs)
-      ≡ over (plus5 s c wanted) (noTotals block) roots .tiles + (over (plusBlock s wanted) (record { leaves = 0; voxels = 0; found = none }) (allBlocks fs)) .voxels
+      ≡ over (plus5 s c wanted) (noTotals block) roots .activeTiles + (over (plusBlock s wanted) (record { leaves = 0; voxels = 0; found = none }) (allBlocks fs)) .voxels
   unfolding allBlocks
   active-length block roots fs p d =
-      let all = many-total (filled5 s c) (λ f. length (active5 s c f)) (λ f. voxels-of (joined (λ g. g .blocks) (f .nodes))) tiles5 filled5-length roots block fs p d in
-      let passed = over-total (plus5 s c wanted) (λ t. t .tiles) tiles5 node5-tiles roots (noTotals block) in
+      let all = many-total (filled5 s c) (λ f. total weight (pieces5 f)) (λ f. voxels-of (joined (λ g. g .blocks) (f .nodes))) tiles5 filled5-length roots block fs p d in
+      let passed = over-total (plus5 s c wanted) (λ t. t .activeTiles) tiles5 node5-tiles roots (noTotals block) in
       let counted = summary-voxels s wanted (allBlocks fs) (record { leaves = 0; voxels = 0; found = none }) in
-      omega (arith, length-joined (active5 s c) fs, total-joined (λ b. countBelow (maskBit s (b .mask)) 512) (λ f. joined (λ g. g .blocks) (f .nodes)) fs)
+      omega (arith, list-length fs, total-joined (λ b. countBelow (maskBit s (b .mask)) 512) (λ f. joined (λ g. g .blocks) (f .nodes)) fs)

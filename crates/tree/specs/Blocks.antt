@@ -1,4 +1,4 @@
--- Document 01, section 6: "From the block position, leaves in topology order". The blocks are laid into the tree.
+-- Section 6: the leaf blocks stand in a row from the block position on, in the order in which the topology has the leaves. They are laid into the tree.
 use Prim.Native.Nat.{ℕ}
 use mathlib.Core.List.{List}
 use Rattle.fields.specs.Parse.{Parse, got, then, many}

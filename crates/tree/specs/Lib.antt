@@ -1,4 +1,4 @@
 pub mod Topology
 pub mod Blocks
 pub mod Active
-pub mod Passing
+pub mod Inner

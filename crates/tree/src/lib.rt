@@ -1,17 +1,18 @@
-// Document 01, sections 4 and 6: one pass over the topology, with the leaves' blocks passed beside it.
+// Sections 4 and 6 of document 01: one pass over the topology, with the leaves' blocks passed beside it.
 ghost use mathlib.Core.Path.{_≡_};
-ghost use mathlib.Core.Bool.{true};
+ghost use mathlib.Core.Bool.{true, not, _&&_};
 ghost use mathlib.Core.Option.{some};
 ghost use Prim.Native.Nat.{_+_, _*_, _≤_, _<_};
 ghost use mathlib.Core.List.{[]};
 ghost use lib.Dec.{eqb};
 ghost use lib.ListN.{length, take};
 ghost use Rattle.fields.specs.Parse.{when};
-ghost use Rattle.coordinates.specs.Coordinates.{aligned};
-ghost use Rattle.half.specs.Half.{isWidth};
-ghost use Rattle.masks.specs.Masks.{maskBit, IsMask, ones};
-ghost use Rattle.tree.specs.Topology.{leafField, node4Field, childField, node5Field, isAmong, originField};
-ghost use Rattle.tree.specs.Passing.{blockAfter, plusLeaf, plus4, plus5, passOne, passing, passingRoots, saysOrigin, saysLeaf, saysPassed, totalsOf, saysPass, Few, fewField, passingTree, saysTopology, fewTopology};
+ghost use Rattle.coordinates.specs.Coordinates.{aligned, globalOf};
+ghost use Rattle.half.specs.Inner.{isWidth};
+ghost use Rattle.masks.specs.Masks.{maskBit, ones, countBelow};
+ghost use Rattle.masks.specs.Inner.{IsMask};
+ghost use Rattle.tree.specs.Topology.{leafField, childField, isAmong, originField, buffersField, rootCountField, tilesField, treeHeadField};
+ghost use Rattle.tree.specs.Inner.{plusTiles, plusLeaf, plus4, passOne, passing, passingNode, ranFrom, passingRoots, traversal, totalsOf, Few, fewField, fewTopology, saysCount, saysTiles, saysTreeHead, saysOrigin, saysPass, saysTopology};
 use coordinates::GlobalCoord;
 use coordinates::Index;
 use fields::IVec3Field;
@@ -47,7 +48,7 @@ pub struct Passed {
 // The pass so far: where the topology goes on, the active tiles, and the blocks.
 pub struct Pass {
     pub at: usize,
-    pub tiles: u64,
+    pub active_tiles: u64,
     pub blocks: Passed,
 }
 
@@ -56,19 +57,16 @@ pub enum PassField {
     Refused(u32),
 }
 
-pub enum OriginField {
-    Got(GlobalCoord, usize),
+// The pass after a run of leaves: at their end, or stopped before a place, or refused.
+pub enum RunField {
+    Done(Pass),
+    Stopped(u32, Pass),
     Refused(u32),
 }
 
-// The block with the wanted number is kept.
-fn newer_leaf(n: u64, wanted: u64, b: Block, best: FoundLeaf) -> FoundLeaf
-    ensures { λ r. ⌜ saysLeaf r ≡ when (eqb n wanted) (some b) (saysLeaf best) ⌝ }
-{
-    if n == wanted {
-        return FoundLeaf::At(b);
-    }
-    best
+pub enum OriginField {
+    Got(GlobalCoord, usize),
+    Refused(u32),
 }
 
 fn wide(n: u32) -> u64
@@ -77,64 +75,151 @@ fn wide(n: u32) -> u64
     n as u64
 }
 
-// The blocks after one more leaf's.
-fn pass_block(s: &[u8], c: Coding, wanted: u64, leaf: Leaf, b: Passed) -> Passed
-    requires { ⌜ IsMask (now s) (leaf .mask) 64 × isWidth (c .width) × (b .leaves < 2147483647) × (b .voxels ≤ 512 * b .leaves) ⌝ }
-    ensures { λ r. ⌜ (saysPassed r ≡ blockAfter (now (s .entry)) c wanted leaf (saysPassed b)) × (r .leaves ≤ b .leaves + 1) × (r .voxels ≤ 512 * r .leaves) ⌝ }
+// The next leaf, where a block has been refused: no other is read.
+fn skip_leaf(
+    s: &[u8],
+    c: Coding,
+    wanted: u64,
+    origin: GlobalCoord,
+    child: usize,
+    start: u32,
+    k: u32,
+    t: Pass,
+) -> RunField
+    requires { ⌜ Few (now s) t × IsMask (now s) child 512 × (start ≤ 4096) × (t .blocks .at ≡ BlocksAt.Refused k) ⌝ }
+    ensures { λ r. ⌜ ranFrom (now (s .entry)) c wanted origin child start t r ⌝ }
 {
-    let state = b.at;
-    let leaves = b.leaves;
-    let voxels = b.voxels;
-    let found = b.found;
-    let BlocksAt::At(p) = state else {
-        return b;
+    let at = t.at;
+    let active_tiles = t.active_tiles;
+    let blocks = t.blocks;
+    let NextOne::At(p) = masks::next_one(s, child, 512, Index(start)) else {
+        return RunField::Done(t);
     };
-    match nodes::read_block(s, c, leaf, p) {
-        BlockField::Refused(k) => Passed {
-            at: BlocksAt::Refused(k),
-            leaves,
-            voxels,
-            found,
+    let SpanField::Got(_, q) = fields::read_bytes(s, at, 64) else {
+        return RunField::Refused(2);
+    };
+    RunField::Stopped(
+        p.0 + 1,
+        Pass {
+            at: q,
+            active_tiles,
+            blocks,
         },
-        BlockField::Got(x, q) => {
-            let mask = x.mask;
-            let n = wide(masks::count_ones(s, mask, 64));
-            Passed {
-                at: BlocksAt::At(q),
-                leaves: leaves + 1,
-                voxels: voxels + n,
-                found: newer_leaf(leaves, wanted, x, found),
+    )
+}
+
+// The leaf at place p of the 4-node with this origin.
+fn leaf_at(origin: GlobalCoord, p: Index, mask: usize) -> Leaf
+    requires { ⌜ (aligned 128 origin ≡ true) × (p .0 < 4096) ⌝ }
+    ensures { λ r. ⌜ r ≡ record { origin = globalOf 16 8 origin p; mask = mask } ⌝ }
+{
+    let leaf_origin = coordinates::offset_to_global_coord(p, 16, 8, origin);
+    Leaf {
+        origin: leaf_origin,
+        mask,
+    }
+}
+
+// The pass of these numbers.
+fn pass_of(
+    at: usize,
+    active_tiles: u64,
+    state: BlocksAt,
+    leaves: u64,
+    voxels: u64,
+    found: FoundLeaf,
+) -> Pass
+    ensures { λ r. ⌜ r ≡ record { at = at; «active_tiles» = «active_tiles»; blocks = record { at = state; leaves = leaves; voxels = voxels; found = found } } ⌝ }
+{
+    let blocks = Passed {
+        at: state,
+        leaves,
+        voxels,
+        found,
+    };
+    Pass {
+        at,
+        active_tiles,
+        blocks,
+    }
+}
+
+// The leaves from a place on with their blocks from `first` on, to the wanted one or a refused one. The pass is kept as numbers, so that no
+// struct is copied for a leaf; and ones are counted in the topology's mask alone, so that the next block's position waits for no byte of this
+// block, only for the branches on it.
+fn run_blocks(
+    s: &[u8],
+    c: Coding,
+    wanted: u64,
+    origin: GlobalCoord,
+    child: usize,
+    start: u32,
+    first: usize,
+    t: Pass,
+) -> RunField
+    requires { ⌜ Few (now s) t × isWidth (c .width) × (aligned 128 origin ≡ true) × IsMask (now s) child 512 × (start ≤ 4096) × (t .blocks .at ≡ BlocksAt.At first) ⌝ }
+    ensures { λ r. ⌜ ranFrom (now (s .entry)) c wanted origin child start t r ⌝ }
+{
+    let tiles = t.active_tiles;
+    let before = t.blocks;
+    let found = before.found;
+    let mut from = start;
+    let mut at = t.at;
+    let mut block = first;
+    let mut leaves = before.leaves;
+    let mut voxels = before.voxels;
+    loop {
+        let NextOne::At(p) = masks::next_one(s, child, 512, Index(from)) else {
+            return RunField::Done(pass_of(at, tiles, BlocksAt::At(block), leaves, voxels, found));
+        };
+        let SpanField::Got(span, q) = fields::read_bytes(s, at, 64) else {
+            return RunField::Refused(2);
+        };
+        let n = masks::count_ones(s, span.start, 64);
+        let leaf = leaf_at(origin, p, span.start);
+        let number = leaves;
+        from = p.0 + 1;
+        at = q;
+        leaves = leaves + 1;
+        voxels = voxels + wide(n);
+        match nodes::read_counted_block(s, c, leaf, n as usize, block) {
+            BlockField::Refused(k) => {
+                let u = pass_of(at, tiles, BlocksAt::Refused(k), leaves, voxels, found);
+                return RunField::Stopped(from, u);
+            }
+            BlockField::Got(x, r) => {
+                if number == wanted {
+                    let u = pass_of(at, tiles, BlocksAt::At(r), leaves, voxels, FoundLeaf::At(x));
+                    return RunField::Stopped(from, u);
+                }
+                block = r;
             }
         }
     }
 }
 
-// One leaf of the 4-node with this origin, at place p.
-fn pass_leaf(s: &[u8], c: Coding, wanted: u64, origin: GlobalCoord, p: Index, t: Pass) -> PassField
-    requires { ⌜ Few (now s) t × isWidth (c .width) × (aligned 128 origin ≡ true) × (p .0 < 4096) ⌝ }
-    ensures { λ r. ⌜ (saysPass r ≡ passOne (leafField (now (s .entry)) origin) (plusLeaf (now (s .entry)) c wanted) (totalsOf t) (p .0) (t .at)) × fewField (now (s .entry)) r ⌝ }
+// The leaves from a place on, as far as they are passed at once.
+fn run_leaves(
+    s: &[u8],
+    c: Coding,
+    wanted: u64,
+    origin: GlobalCoord,
+    child: usize,
+    start: u32,
+    t: Pass,
+) -> RunField
+    requires { ⌜ Few (now s) t × isWidth (c .width) × (aligned 128 origin ≡ true) × IsMask (now s) child 512 × (start ≤ 4096) ⌝ }
+    ensures { λ r. ⌜ ranFrom (now (s .entry)) c wanted origin child start t r ⌝ }
 {
-    let at = t.at;
-    let tiles = t.tiles;
-    let before = t.blocks;
-    let SpanField::Got(span, q) = fields::read_bytes(s, at, 64) else {
-        return PassField::Refused(2);
-    };
-    let mask = span.start;
-    let leaf_origin = coordinates::offset_to_global_coord(p, 16, 8, origin);
-    let leaf = Leaf {
-        origin: leaf_origin,
-        mask,
-    };
-    let blocks = pass_block(s, c, wanted, leaf, before);
-    PassField::Got(Pass {
-        at: q,
-        tiles,
-        blocks,
-    })
+    let blocks = t.blocks;
+    let state = blocks.at;
+    match state {
+        BlocksAt::At(first) => run_blocks(s, c, wanted, origin, child, start, first, t),
+        BlocksAt::Refused(k) => skip_leaf(s, c, wanted, origin, child, start, k, t),
+    }
 }
 
-// The leaves of the 4-node with this origin and child mask, by rising child bit.
+// The leaves of the 4-node with this origin and child mask, by rising child bit, run by run.
 fn pass_leaves(
     s: &[u8],
     c: Coding,
@@ -149,41 +234,46 @@ fn pass_leaves(
     let mut t = first;
     let mut from: u32 = 0;
     loop {
-        let NextOne::At(p) = masks::next_one(s, child, 512, Index(from)) else {
-            return PassField::Got(t);
-        };
-        match pass_leaf(s, c, wanted, origin, p, t) {
-            PassField::Refused(k) => {
+        match run_leaves(s, c, wanted, origin, child, from, t) {
+            RunField::Done(u) => {
+                return PassField::Got(u);
+            }
+            RunField::Refused(k) => {
                 return PassField::Refused(k);
             }
-            PassField::Got(n) => {
-                t = n;
+            RunField::Stopped(place, u) => {
+                t = u;
+                from = place;
             }
         }
-        from = p.0 + 1;
     }
 }
 
-// The 4-node with this origin, and its leaves. Its tiles are counted from its value mask.
+// The pass behind the header of a node with masks of n bytes, whose own active places are counted.
+fn enter_node(s: &[u8], h: NodeHeader, n: usize, at: usize, t: Pass) -> Pass
+    requires { ⌜ Few (now s) t × IsMask (now s) (h .value) n × (t .at + n ≤ at) × (at ≤ length (now s)) ⌝ }
+    ensures { λ r. ⌜ (totalsOf r ≡ plusTiles (totalsOf t) (countBelow (maskBit (now (s .entry)) (h .value)) (8 * n))) × (r .at ≡ at) × Few (now (s .entry)) r ⌝ }
+{
+    let value = h.value;
+    let blocks = t.blocks;
+    let active_tiles = t.active_tiles + wide(masks::count_ones(s, value, n));
+    Pass {
+        at,
+        active_tiles,
+        blocks,
+    }
+}
+
+// The 4-node with this origin, and its leaves.
 fn pass_node4(s: &[u8], c: Coding, wanted: u64, origin: GlobalCoord, t: Pass) -> PassField
     requires { ⌜ Few (now s) t × isWidth (c .width) × (aligned 128 origin ≡ true) ⌝ }
-    ensures { λ r. ⌜ (saysPass r ≡ passOne (node4Field (now (s .entry)) c) (plus4 (now (s .entry)) c wanted) (totalsOf t) origin (t .at)) × fewField (now (s .entry)) r ⌝ }
+    ensures { λ r. ⌜ (saysPass r ≡ passingNode (now (s .entry)) c 512 (leafField (now (s .entry)) origin) (plusLeaf (now (s .entry)) c wanted) (totalsOf t) (t .at)) × fewField (now (s .entry)) r ⌝ }
 {
-    let at = t.at;
-    let tiles = t.tiles;
-    let blocks = t.blocks;
-    match nodes::read_node_header(s, c, 512, at) {
+    match nodes::read_node_header(s, c, 512, t.at) {
         NodeField::Refused(k) => PassField::Refused(k),
         NodeField::Got(h, p) => {
-            let child = h.child;
-            let value = h.value;
-            let n = wide(masks::count_ones(s, value, 512));
-            let first = Pass {
-                at: p,
-                tiles: tiles + n,
-                blocks,
-            };
-            pass_leaves(s, c, wanted, origin, child, first)
+            let first = enter_node(s, h, 512, p, t);
+            pass_leaves(s, c, wanted, origin, h.child, first)
         }
     }
 }
@@ -230,23 +320,13 @@ fn pass_nodes(
 // The 5-node with this origin, and its 4-nodes.
 fn pass_node5(s: &[u8], c: Coding, wanted: u64, origin: GlobalCoord, t: Pass) -> PassField
     requires { ⌜ Few (now s) t × isWidth (c .width) × (aligned 4096 origin ≡ true) ⌝ }
-    ensures { λ r. ⌜ (saysPass r ≡ passOne (node5Field (now (s .entry)) c) (plus5 (now (s .entry)) c wanted) (totalsOf t) origin (t .at)) × fewField (now (s .entry)) r ⌝ }
+    ensures { λ r. ⌜ (saysPass r ≡ passingNode (now (s .entry)) c 4096 (childField (now (s .entry)) c origin) (plus4 (now (s .entry)) c wanted) (totalsOf t) (t .at)) × fewField (now (s .entry)) r ⌝ }
 {
-    let at = t.at;
-    let tiles = t.tiles;
-    let blocks = t.blocks;
-    match nodes::read_node_header(s, c, 4096, at) {
+    match nodes::read_node_header(s, c, 4096, t.at) {
         NodeField::Refused(k) => PassField::Refused(k),
         NodeField::Got(h, p) => {
-            let child = h.child;
-            let value = h.value;
-            let n = wide(masks::count_ones(s, value, 4096));
-            let first = Pass {
-                at: p,
-                tiles: tiles + n,
-                blocks,
-            };
-            pass_nodes(s, c, wanted, origin, child, first)
+            let first = enter_node(s, h, 4096, p, t);
+            pass_nodes(s, c, wanted, origin, h.child, first)
         }
     }
 }
@@ -267,19 +347,27 @@ fn is_among(origins: [GlobalCoord; 256], n: usize, o: GlobalCoord) -> bool
     false
 }
 
+// Whether an origin may stand after the first n: its coordinates are multiples of 4096, and none of the others is it.
+fn is_new_origin(origins: [GlobalCoord; 256], n: usize, o: GlobalCoord) -> bool
+    requires { ⌜ n ≤ 256 ⌝ }
+    ensures { λ r. ⌜ r ≡ (aligned 4096 o && not (isAmong o (take n origins))) ⌝ }
+{
+    if !coordinates::is_aligned(o, 4096) {
+        return false;
+    }
+    !is_among(origins, n, o)
+}
+
 // A root's origin, after n others.
 fn read_origin(s: &[u8], origins: [GlobalCoord; 256], n: usize, at: usize) -> OriginField
     requires { ⌜ n ≤ 256 ⌝ }
-    ensures { λ r. ⌜ saysOrigin r ≡ originField (take n origins) (now (s .entry)) at ⌝ }
+    ensures { λ r. ⌜ saysOrigin r ≡ originField (now (s .entry)) (take n origins) at ⌝ }
 {
     let IVec3Field::Got(v, p) = fields::read_i_vec3(s, at) else {
         return OriginField::Refused(2);
     };
-    let o = GlobalCoord(v.x, v.y, v.z);
-    if !coordinates::is_aligned(o, 4096) {
-        return OriginField::Refused(17);
-    }
-    if is_among(origins, n, o) {
+    let o = nodes::origin_of(v);
+    if !is_new_origin(origins, n, o) {
         return OriginField::Refused(17);
     }
     OriginField::Got(o, p)
@@ -288,7 +376,7 @@ fn read_origin(s: &[u8], origins: [GlobalCoord; 256], n: usize, at: usize) -> Or
 // The roots, each with its nodes. The origins passed so far are kept, so that none is read twice.
 fn pass_roots(s: &[u8], c: Coding, wanted: u64, count: u32, first: Pass) -> PassField
     requires { ⌜ Few (now s) first × isWidth (c .width) × (count ≤ 256) ⌝ }
-    ensures { λ r. ⌜ (saysPass r ≡ passingRoots count [] (now (s .entry)) c wanted (totalsOf first) (first .at)) × fewField (now (s .entry)) r ⌝ }
+    ensures { λ r. ⌜ (saysPass r ≡ passingRoots (now (s .entry)) c wanted count [] (totalsOf first) (first .at)) × fewField (now (s .entry)) r ⌝ }
 {
     let mut origins = [GlobalCoord(0, 0, 0); 256];
     let mut t = first;
@@ -296,7 +384,7 @@ fn pass_roots(s: &[u8], c: Coding, wanted: u64, count: u32, first: Pass) -> Pass
     while i < count {
         let n = i as usize;
         let at = t.at;
-        let tiles = t.tiles;
+        let active_tiles = t.active_tiles;
         let blocks = t.blocks;
         match read_origin(s, origins, n, at) {
             OriginField::Refused(k) => {
@@ -305,7 +393,7 @@ fn pass_roots(s: &[u8], c: Coding, wanted: u64, count: u32, first: Pass) -> Pass
             OriginField::Got(o, p) => {
                 let here = Pass {
                     at: p,
-                    tiles,
+                    active_tiles,
                     blocks,
                 };
                 match pass_node5(s, c, wanted, o, here) {
@@ -324,11 +412,103 @@ fn pass_roots(s: &[u8], c: Coding, wanted: u64, count: u32, first: Pass) -> Pass
     PassField::Got(t)
 }
 
-// What the topology gives: the background's pattern, where the roots start and how many there are, and the pass at its end.
-pub struct Topology {
+// What stands before the roots: the background's pattern, where the root tiles stand and how many there are, where the roots stand and how many
+// there are.
+pub struct TreeHead {
     pub background: u32,
+    pub tiles_pos: usize,
+    pub tile_count: u32,
     pub roots_pos: usize,
     pub root_count: u32,
+}
+
+pub enum CountField {
+    Got(u32, usize),
+    Refused(u32),
+}
+
+pub enum TilesField {
+    Got(usize),
+    Past,
+}
+
+pub enum TreeHeadField {
+    Got(TreeHead),
+    Refused(u32),
+}
+
+fn read_buffer_count(s: &[u8], at: usize) -> CountField
+    ensures { λ r. ⌜ saysCount r ≡ buffersField (now (s .entry)) at ⌝ }
+{
+    match fields::read_u32(s, at) {
+        U32Field::Past => CountField::Refused(2),
+        U32Field::Got(n, p) => {
+            if n != 1 {
+                return CountField::Refused(15);
+            }
+            CountField::Got(n, p)
+        }
+    }
+}
+
+fn read_root_count(s: &[u8], limit: u32, at: usize) -> CountField
+    ensures { λ r. ⌜ saysCount r ≡ rootCountField (now (s .entry)) limit at ⌝ }
+{
+    match fields::read_u32(s, at) {
+        U32Field::Past => CountField::Refused(2),
+        U32Field::Got(n, p) => {
+            if limit < n {
+                return CountField::Refused(16);
+            }
+            CountField::Got(n, p)
+        }
+    }
+}
+
+// Root tiles are passed by one length, as none is looked at; where there is none, nothing has to lie in the file.
+fn read_tiles(s: &[u8], count: u32, at: usize) -> TilesField
+    ensures { λ r. ⌜ saysTiles r ≡ tilesField (now (s .entry)) count at ⌝ }
+{
+    if count == 0 {
+        return TilesField::Got(at);
+    }
+    match fields::read_bytes(s, at, 17 * (count as usize)) {
+        SpanField::Past => TilesField::Past,
+        SpanField::Got(_, n) => TilesField::Got(n),
+    }
+}
+
+fn read_tree_head(s: &[u8], limit: u32, at: usize) -> TreeHeadField
+    ensures { λ r. ⌜ saysTreeHead r ≡ treeHeadField (now (s .entry)) limit at ⌝ }
+{
+    let p = match read_buffer_count(s, at) {
+        CountField::Refused(k) => return TreeHeadField::Refused(k),
+        CountField::Got(_, p) => p,
+    };
+    let U32Field::Got(background, q) = fields::read_u32(s, p) else {
+        return TreeHeadField::Refused(2);
+    };
+    let U32Field::Got(tile_count, r) = fields::read_u32(s, q) else {
+        return TreeHeadField::Refused(2);
+    };
+    match read_root_count(s, limit, r) {
+        CountField::Refused(k) => TreeHeadField::Refused(k),
+        CountField::Got(root_count, t) => match read_tiles(s, tile_count, t) {
+            TilesField::Past => TreeHeadField::Refused(2),
+            TilesField::Got(n) => TreeHeadField::Got(TreeHead {
+                background,
+                tiles_pos: t,
+                tile_count,
+                roots_pos: n,
+                root_count,
+            }),
+        },
+    }
+}
+
+// What one pass over the topology gives.
+pub struct Topology {
+    pub head: TreeHead,
     pub pass: Pass,
 }
 
@@ -337,56 +517,36 @@ pub enum TopologyField {
     Refused(u32),
 }
 
-// The tree's topology at `at`, with the blocks from block_pos on and the leaf of the wanted number.
+// The topology at `at`, of no more roots than the limit, with the blocks from block_pos on and the leaf of the wanted number.
 pub fn read_tree_topology(
     s: &[u8],
     c: Coding,
+    limit: u32,
     wanted: u64,
     block_pos: usize,
     at: usize,
 ) -> TopologyField
-    requires { ⌜ (length (now s) ≤ 2147483647) × isWidth (c .width) ⌝ }
-    ensures { λ r. ⌜ (saysTopology r ≡ passingTree (now (s .entry)) c wanted «block_pos» at) × fewTopology (now (s .entry)) r ⌝ }
+    requires { ⌜ (length (now s) ≤ 2147483647) × isWidth (c .width) × (limit ≤ 256) ⌝ }
+    ensures { λ r. ⌜ (saysTopology r ≡ traversal (now (s .entry)) c limit wanted «block_pos» at) × fewTopology (now (s .entry)) r ⌝ }
 {
-    let U32Field::Got(buffers, p) = fields::read_u32(s, at) else {
-        return TopologyField::Refused(2);
-    };
-    if buffers != 1 {
-        return TopologyField::Refused(15);
-    }
-    let U32Field::Got(background, q) = fields::read_u32(s, p) else {
-        return TopologyField::Refused(2);
-    };
-    let U32Field::Got(tiles, r) = fields::read_u32(s, q) else {
-        return TopologyField::Refused(2);
-    };
-    let U32Field::Got(root_count, t) = fields::read_u32(s, r) else {
-        return TopologyField::Refused(2);
-    };
-    if 256 < root_count {
-        return TopologyField::Refused(16);
-    }
-    let SpanField::Got(_, u) = fields::read_bytes(s, t, 17 * (tiles as usize)) else {
-        return TopologyField::Refused(2);
-    };
-    let none = Passed {
-        at: BlocksAt::At(block_pos),
-        leaves: 0,
-        voxels: 0,
-        found: FoundLeaf::Nothing,
-    };
-    let first = Pass {
-        at: u,
-        tiles: 0,
-        blocks: none,
-    };
-    match pass_roots(s, c, wanted, root_count, first) {
-        PassField::Refused(k) => TopologyField::Refused(k),
-        PassField::Got(pass) => TopologyField::Got(Topology {
-            background,
-            roots_pos: u,
-            root_count,
-            pass,
-        }),
+    match read_tree_head(s, limit, at) {
+        TreeHeadField::Refused(k) => TopologyField::Refused(k),
+        TreeHeadField::Got(head) => {
+            let none = Passed {
+                at: BlocksAt::At(block_pos),
+                leaves: 0,
+                voxels: 0,
+                found: FoundLeaf::Nothing,
+            };
+            let first = Pass {
+                at: head.roots_pos,
+                active_tiles: 0,
+                blocks: none,
+            };
+            match pass_roots(s, c, wanted, head.root_count, first) {
+                PassField::Refused(k) => TopologyField::Refused(k),
+                PassField::Got(pass) => TopologyField::Got(Topology { head, pass }),
+            }
+        }
     }
 }

@@ -25,17 +25,5 @@ sum c =
     let f = toZ-pos w32 {n = c .args .x * c .args .step} (omega arith) in
     λ i. e i +ℤ f i
 
-mul-result : tie.Need-mul-result
-mul-result c = omega (arith, below c)
-
-cast-result : tie.Need-cast-result
-cast-result c = omega (arith, below c)
-
-add-result : tie.Need-add-result
-add-result c = rw (sum c) (sum-fits c)
-
-returns : tie.Need-returns
-returns c = rw (sum c) (toZ-ofZ (sum-fits c))
-
 pub axis-coord-spec : {M : Type 1} → statement M
-axis-coord-spec = tie.close (tie.spec mul-result cast-result add-result returns)
+axis-coord-spec = tie.close (tie.spec (λ c. omega (arith, below c)) (λ c. omega (arith, below c)) (λ c. rw (sum c) (sum-fits c)) (λ c. rw (sum c) (toZ-ofZ (sum-fits c))))

@@ -5,14 +5,8 @@ use Rattle.coordinates.proofs.Remainder.{remainder-lt}
 use Rattle.coordinates.proofs.axis_place.Statement.{statement}
 use Rattle.coordinates.proofs.axis_place.Tie as tie
 
-mul-remainder-by : tie.Need-mul-remainder-by
-mul-remainder-by c = search needs
-
 remainder-by-requires : tie.Need-remainder-by-requires
 remainder-by-requires c κs = record { positive = mul-pos (c .pre .side-positive) (c .pre .step-positive); whole = c .pre .whole-spans }
-
-div-result : tie.Need-div-result
-div-result c = search needs
 
 returns : tie.Need-returns
 returns c =
@@ -21,4 +15,4 @@ returns c =
     (search needs, div-lt-iff-lt-mul (p .step-positive) .1 (remainder-lt _ _ (mul-pos (p .side-positive) (p .step-positive))))
 
 pub axis-place-spec : {M : Type 1} → statement M
-axis-place-spec = tie.close (tie.spec mul-remainder-by remainder-by-requires div-result returns)
+axis-place-spec = tie.close (tie.spec (λ c. search needs) remainder-by-requires (λ c. search needs) returns)

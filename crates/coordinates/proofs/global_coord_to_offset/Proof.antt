@@ -12,15 +12,6 @@ use Rattle.coordinates.proofs.Laws.{nested}
 use Rattle.coordinates.proofs.global_coord_to_offset.Statement.{statement}
 use Rattle.coordinates.proofs.global_coord_to_offset.Tie as tie
 
-axis-place-requires : tie.Need-axis-place-requires
-axis-place-requires c κs = search needs
-
-axis-place-requires-2 : tie.Need-axis-place-requires-2
-axis-place-requires-2 c κs = search needs
-
-axis-place-requires-3 : tie.Need-axis-place-requires-3
-axis-place-requires-3 c κs = search needs
-
 module _ (c : tie.After-axis-place3) where
   abbrev x : ℕ
   x = c .before .before .before .before .axis-place .result
@@ -44,18 +35,6 @@ module _ (c : tie.After-axis-place3) where
   first : x * side + y ≤ (x * side + y) * side
   first = omega (arith, mul-le-mul-left (x * side + y) (start .pre .side-positive), mul-one (x * side + y))
 
-mul-t7 : tie.Need-mul-t7
-mul-t7 c = omega (arith, below c, first c)
-
-add-t8 : tie.Need-add-t8
-add-t8 c = omega (arith, below c, first c)
-
-mul-t9 : tie.Need-mul-t9
-mul-t9 c = omega (arith, below c)
-
-add-t10 : tie.Need-add-t10
-add-t10 c = omega (arith, below c)
-
 -- each coordinate is read back from its bits
 returns : tie.Need-returns
 unfolding placeOf
@@ -70,11 +49,11 @@ pub global-coord-to-offset-spec : {M : Type 1} → statement M
 global-coord-to-offset-spec =
     tie.close
     (tie.spec
-    axis-place-requires
-    axis-place-requires-2
-    axis-place-requires-3
-    mul-t7
-    add-t8
-    mul-t9
-    add-t10
+    (λ c κs. search needs)
+    (λ c κs. search needs)
+    (λ c κs. search needs)
+    (λ c. omega (arith, below c, first c))
+    (λ c. omega (arith, below c, first c))
+    (λ c. omega (arith, below c))
+    (λ c. omega (arith, below c))
     returns)

@@ -11,15 +11,6 @@ use Rattle.coordinates.specs.Coordinates.{aligned}
 use Rattle.coordinates.proofs.is_aligned.Statement.{statement}
 use Rattle.coordinates.proofs.is_aligned.Tie as tie
 
-remainder-by-requires : tie.Need-remainder-by-requires
-remainder-by-requires c κs = search needs
-
-remainder-by-requires-2 : tie.Need-remainder-by-requires-2
-remainder-by-requires-2 c κs = search needs
-
-remainder-by-requires-3 : tie.Need-remainder-by-requires-3
-remainder-by-requires-3 c κs = search needs
-
 module _ (c : tie.After-remainder-by3) where
   abbrev x : ℕ
   x = c .before .before .before .before .remainder-by .result
@@ -53,9 +44,9 @@ pub is-aligned-spec : {M : Type 1} → statement M
 is-aligned-spec =
     tie.close
     (tie.spec
-    remainder-by-requires
-    remainder-by-requires-2
-    remainder-by-requires-3
+    (λ c κs. search needs)
+    (λ c κs. search needs)
+    (λ c κs. search needs)
     returns
     returns-2
     returns-3)

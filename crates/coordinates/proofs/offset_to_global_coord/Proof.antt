@@ -10,14 +10,13 @@ use Rattle.coordinates.proofs.Laws.{aligned-axes, child-aligned, digits
 use Rattle.coordinates.proofs.offset_to_global_coord.Statement.{statement}
 use Rattle.coordinates.proofs.offset_to_global_coord.Tie as tie
 
-offset-to-local-coord-requires : tie.Need-offset-to-local-coord-requires
-offset-to-local-coord-requires c κs = search needs
-
 module _ (a : tie.Start) where
   below : (localOf (a .args .side) (a .args .p) .0 < a .args .side) × (localOf (a .args .side) (a .args .p) .1 < a .args .side) × (localOf (a .args .side) (a .args .p) .2 < a .args .side)
   below = digits-below (a .args .side) (a .args .p) (a .pre .1)
 
-  multiples : (remainder (a .args .origin .0) (a .args .side * a .args .step) ≡ 0) × (remainder (a .args .origin .1) (a .args .side * a .args .step) ≡ 0) × (remainder (a .args .origin .2) (a .args .side * a .args .step) ≡ 0)
+  multiples :
+      let span = a .args .side * a .args .step in
+      (remainder (a .args .origin .0) span ≡ 0) × (remainder (a .args .origin .1) span ≡ 0) × (remainder (a .args .origin .2) span ≡ 0)
   multiples = aligned-axes (a .args .side * a .args .step) (a .args .origin) (a .pre .2)
 
 axis-coord-requires : tie.Need-axis-coord-requires
@@ -58,4 +57,4 @@ returns c =
 
 pub offset-to-global-coord-spec : {M : Type 1} → statement M
 offset-to-global-coord-spec =
-    tie.close (tie.spec offset-to-local-coord-requires axis-coord-requires axis-coord-requires-2 axis-coord-requires-3 returns)
+    tie.close (tie.spec (λ c κs. search needs) axis-coord-requires axis-coord-requires-2 axis-coord-requires-3 returns)

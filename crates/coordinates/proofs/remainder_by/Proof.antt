@@ -17,9 +17,6 @@ wide c = sfits-widen tt (c .fits .v)
 sum : (c : tie.Start) → toZ w64 (ofZ w64 (c .args .v)) +ℤ pos 2147483648 ≡ pos (lifted-in (c .args .v) (c .fits .v) .0)
 sum c = ap (λ (z : ℤ). z +ℤ pos 2147483648) (toZ-ofZ (wide c)) ∙ lifted-in (c .args .v) (c .fits .v) .2
 
-cast-result : tie.Need-cast-result
-cast-result c = rw (toZ-ofZ (c .fits .v)) (wide c)
-
 add-result : tie.Need-add-result
 add-result c = let k = lifted-in (c .args .v) (c .fits .v) in rw (toZ-ofZ (c .fits .v), sum c) (record { sfits = omega arith })
 
@@ -28,9 +25,6 @@ cast-result-2 c =
     let k = lifted-in (c .args .v) (c .fits .v) in
     rw (toZ-ofZ (c .fits .v), sum c, toZ-pos w64 {n = k .0} (omega arith)) (tt, record { fits = k .1 })
 
-rem-result : tie.Need-rem-result
-rem-result c = search needs
-
 returns : tie.Need-returns
 returns c =
     let k = lifted-in (c .args .v) (c .fits .v) in
@@ -38,4 +32,4 @@ returns c =
     (sym (remainder-lifted (c .args .v) (k .0) (c .args .m) (c .pre .positive) (c .pre .whole) (k .2)))
 
 pub remainder-by-spec : {M : Type 1} → statement M
-remainder-by-spec = tie.close (tie.spec cast-result add-result cast-result-2 rem-result returns)
+remainder-by-spec = tie.close (tie.spec (λ c. rw (toZ-ofZ (c .fits .v)) (wide c)) add-result cast-result-2 (λ c. search needs) returns)

@@ -13,9 +13,6 @@ use Rattle.coordinates.proofs.Remainder.{remainder-lt}
 use Rattle.coordinates.proofs.root_coord.Statement.{statement}
 use Rattle.coordinates.proofs.root_coord.Tie as tie
 
-remainder-by-requires : tie.Need-remainder-by-requires
-remainder-by-requires c κs = search needs
-
 found : (c : tie.After-remainder-by) → c .remainder-by .result ≡ remainder (c .before .args .v) 4096
 found c = c .remainder-by .ensures ∙ ap (λ (z : ℤ). remainder z 4096) (toZ-ofZ (c .before .fits .v))
 
@@ -33,11 +30,5 @@ difference c =
 fits : (c : tie.After-remainder-by) → SFits w32 (c .before .args .v -ℤ pos (remainder (c .before .args .v) 4096))
 fits c = taken-in-range (c .before .args .v) 4096 (lit< tt) refl (c .before .fits .v)
 
-sub-result : tie.Need-sub-result
-sub-result c = rw (difference c) (fits c)
-
-returns : tie.Need-returns
-returns c = rw (difference c) (toZ-ofZ (fits c))
-
 pub root-coord-spec : {M : Type 1} → statement M
-root-coord-spec = tie.close (tie.spec remainder-by-requires cast-result sub-result returns)
+root-coord-spec = tie.close (tie.spec (λ c κs. search needs) cast-result (λ c. rw (difference c) (fits c)) (λ c. rw (difference c) (toZ-ofZ (fits c))))

@@ -7,15 +7,6 @@ use Rattle.coordinates.specs.Coordinates.{rootOrigin}
 use Rattle.coordinates.proofs.root_origin.Statement.{statement}
 use Rattle.coordinates.proofs.root_origin.Tie as tie
 
-root-coord-requires : tie.Need-root-coord-requires
-root-coord-requires c κs = search needs
-
-root-coord-requires-2 : tie.Need-root-coord-requires-2
-root-coord-requires-2 c κs = search needs
-
-root-coord-requires-3 : tie.Need-root-coord-requires-3
-root-coord-requires-3 c κs = search needs
-
 returns : tie.Need-returns
 unfolding rootOrigin
 returns c =
@@ -31,4 +22,4 @@ returns c =
 
 pub root-origin-spec : {M : Type 1} → statement M
 root-origin-spec =
-    tie.close (tie.spec root-coord-requires root-coord-requires-2 root-coord-requires-3 returns)
+    tie.close (tie.spec (λ c κs. search needs) (λ c κs. search needs) (λ c κs. search needs) returns)

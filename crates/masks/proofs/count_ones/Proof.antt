@@ -17,12 +17,6 @@ Inv-loop s at n count₀ i₀ count i = (i ≤ n) × (i % 8 ≡ 0) × (count ≡
 abbrev μ-loop : tie.MeasureT-loop
 μ-loop s at n count₀ i₀ count i = n - i
 
-loop-holds : tie.Need-loop-holds Inv-loop μ-loop
-loop-holds c = (search needs, refl, sym (ap length (ones-none _ 0)))
-
-word-requires : tie.Need-word-requires Inv-loop μ-loop
-word-requires c κs = search needs
-
 counted : (c : tie.After-word Inv-loop μ-loop) → c .before .before .loop .count + ones (c .word .result)
     ≡ countBelow (maskBit (c .before .before .before .before .args .s .now) (c .before .before .before .before .args .at)) (8 * (c .before .before .loop .i + 8))
 counted c =
@@ -37,15 +31,6 @@ add-count c =
     let a = l .before .before .args in
     omega (arith, counted c, count-le (maskBit (a .s .now) (a .at)) (8 * (l .loop .i + 8)))
 
-add-i : tie.Need-add-i Inv-loop μ-loop
-add-i c = search needs
-
-loop-less : tie.Need-loop-less Inv-loop μ-loop
-loop-less c = omega arith
-
-loop-again : tie.Need-loop-again Inv-loop μ-loop
-loop-again c = (omega arith, omega arith, counted c)
-
 returns : tie.Need-returns Inv-loop μ-loop
 returns c =
     let l = c .before in
@@ -58,10 +43,10 @@ count-ones-spec =
     (tie.spec
     Inv-loop
     μ-loop
-    loop-holds
-    word-requires
+    (λ c. (search needs, refl, sym (ap length (ones-none _ 0))))
+    (λ c κs. search needs)
     add-count
-    add-i
-    loop-less
-    loop-again
+    (λ c. search needs)
+    (λ c. omega arith)
+    (λ c. (omega arith, omega arith, counted c))
     returns)

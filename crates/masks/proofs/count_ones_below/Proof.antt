@@ -10,29 +10,15 @@ use Rattle.masks.proofs.Words.{count-on}
 use Rattle.masks.proofs.count_ones_below.Statement.{statement}
 use Rattle.masks.proofs.count_ones_below.Tie as tie
 
-cast-q : tie.Need-cast-q
-cast-q c = search needs
-
-mul-i : tie.Need-mul-i
-mul-i c = search needs
-
-count-ones-requires : tie.Need-count-ones-requires
-count-ones-requires c κs = search needs
-
 returns : tie.Need-returns
 returns c =
     let a = c .before .before .before .before .args in
     let e : 8 * (a .p .0 / 64 * 8) ≡ a .p .0 = omega arith in
     rw e at (c .before .count-ones .ensures)
 
-word-requires : tie.Need-word-requires
-word-requires c κs = search needs
-
-low-bits-requires : tie.Need-low-bits-requires
-low-bits-requires c κs = search needs
-
-counted : (c : tie.After-low-bits) → c .before .before .before .count-ones .result + ones (c .low-bits .result)
-    ≡ countBelow (maskBit (c .before .before .before .before .before .before .args .s .now) (c .before .before .before .before .before .before .args .at)) (c .before .before .before .before .before .before .args .p .0)
+counted :
+    (c : tie.After-low-bits) → let a = c .before .before .before .before .before .before .args in
+    c .before .before .before .count-ones .result + ones (c .low-bits .result) ≡ countBelow (maskBit (a .s .now) (a .at)) (a .p .0)
 counted c =
     let a = c .before .before .before .before .before .before .args in
     rw (c .before .before .before .count-ones .ensures)
@@ -43,18 +29,15 @@ add-result c =
     let a = c .before .before .before .before .before .before .args in
     omega (arith, counted c, count-le (maskBit (a .s .now) (a .at)) (a .p .0))
 
-returns-2 : tie.Need-returns-2
-returns-2 c = counted c
-
 pub count-ones-below-spec : {M : Type 1} → statement M
 count-ones-below-spec =
     tie.close
     (tie.spec
-    cast-q
-    mul-i
-    count-ones-requires
+    (λ c. search needs)
+    (λ c. search needs)
+    (λ c κs. search needs)
     returns
-    word-requires
-    low-bits-requires
+    (λ c κs. search needs)
+    (λ c κs. search needs)
     add-result
-    returns-2)
+    (λ c. counted c))

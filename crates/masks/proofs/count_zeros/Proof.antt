@@ -7,15 +7,6 @@ use Rattle.masks.proofs.Laws.{zeros-add}
 use Rattle.masks.proofs.count_zeros.Statement.{statement}
 use Rattle.masks.proofs.count_zeros.Tie as tie
 
-cast-result : tie.Need-cast-result
-cast-result c = search needs
-
-mul-result : tie.Need-mul-result
-mul-result c = search needs
-
-count-ones-requires : tie.Need-count-ones-requires
-count-ones-requires c κs = search needs
-
 sub-result : tie.Need-sub-result
 sub-result c =
     let a = c .before .before .args in
@@ -28,4 +19,4 @@ returns c =
 
 pub count-zeros-spec : {M : Type 1} → statement M
 count-zeros-spec =
-    tie.close (tie.spec cast-result mul-result count-ones-requires sub-result returns)
+    tie.close (tie.spec (λ c. search needs) (λ c. search needs) (λ c κs. search needs) sub-result returns)

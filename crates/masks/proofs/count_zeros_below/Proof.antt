@@ -6,9 +6,6 @@ use Rattle.masks.proofs.Laws.{zeros-add}
 use Rattle.masks.proofs.count_zeros_below.Statement.{statement}
 use Rattle.masks.proofs.count_zeros_below.Tie as tie
 
-count-ones-below-requires : tie.Need-count-ones-below-requires
-count-ones-below-requires c κs = search needs
-
 sub-result : tie.Need-sub-result
 sub-result c =
     let a = c .before .before .args in
@@ -20,4 +17,4 @@ returns c =
     omega (arith, zeros-add (maskBit (a .s .now) (a .at)) (a .p .0))
 
 pub count-zeros-below-spec : {M : Type 1} → statement M
-count-zeros-below-spec = tie.close (tie.spec count-ones-below-requires sub-result returns)
+count-zeros-below-spec = tie.close (tie.spec (λ c κs. search needs) sub-result returns)

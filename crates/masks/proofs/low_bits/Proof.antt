@@ -12,14 +12,5 @@ use Rattle.masks.proofs.low_bits.Tie as tie
 shifted : (r : ℕ) → r < 64 → (1 * 2 ^ r) % 2 ^ 64 ≡ 2 ^ r
 shifted r h = shl-exact 1 r 64 (lit< tt) (omega arith) ∙ one-mul (2 ^ r)
 
-shl-result : tie.Need-shl-result
-shl-result c = search needs
-
-rem-result : tie.Need-rem-result
-rem-result c = rw (shifted (c .args .r) (c .pre)) (pow-pos (c .args .r))
-
-returns : tie.Need-returns
-returns c = rw (shifted (c .args .r) (c .pre))
-
 pub low-bits-spec : {M : Type 1} → statement M
-low-bits-spec = tie.close (tie.spec shl-result rem-result returns)
+low-bits-spec = tie.close (tie.spec (λ c. search needs) (λ c. rw (shifted (c .args .r) (c .pre)) (pow-pos (c .args .r))) (λ c. rw (shifted (c .args .r) (c .pre))))

@@ -16,15 +16,6 @@ Inv-loop s a b n i₀ i = (i ≤ n) × (i % 8 ≡ 0) × (agree (maskBit s a) (ma
 abbrev μ-loop : tie.MeasureT-loop
 μ-loop s a b n i₀ i = n - i
 
-loop-holds : tie.Need-loop-holds Inv-loop μ-loop
-loop-holds c = (search needs, refl, ap isNil (ones-none _ 0))
-
-word-requires : tie.Need-word-requires Inv-loop μ-loop
-word-requires c κs = search needs
-
-word-requires-2 : tie.Need-word-requires-2 Inv-loop μ-loop
-word-requires-2 c κs = search needs
-
 returns : tie.Need-returns Inv-loop μ-loop
 returns c =
     let l = c .before .before .before .before in
@@ -33,12 +24,6 @@ returns c =
     let g = maskBit (a .s .now) (a .b) in
     sym
     (differ-here f g (8 * l .loop .i) _ _ (c .before .before .word .ensures) (c .before .word2 .ensures) (8 * a .n) (omega arith) (c .if1 .taken))
-
-add-i : tie.Need-add-i Inv-loop μ-loop
-add-i c = search needs
-
-loop-less : tie.Need-loop-less Inv-loop μ-loop
-loop-less c = omega arith
 
 loop-again : tie.Need-loop-again Inv-loop μ-loop
 loop-again c =
@@ -62,11 +47,11 @@ masks-equal-spec =
     (tie.spec
     Inv-loop
     μ-loop
-    loop-holds
-    word-requires
-    word-requires-2
+    (λ c. (search needs, refl, ap isNil (ones-none _ 0)))
+    (λ c κs. search needs)
+    (λ c κs. search needs)
     returns
-    add-i
-    loop-less
+    (λ c. search needs)
+    (λ c. omega arith)
     loop-again
     returns-2)

@@ -5,7 +5,8 @@ use mathlib.Core.Path.{_≡_, sym, _∙_}
 use Prim.Native.Nat.{_≤_, _+_, _-_, _*_, _%_}
 use native.Mathlib.Nat.{add-zero}
 use lib.Count.{trailing-le}
-use Rattle.masks.specs.Masks.{maskBit, nextOne}
+use Rattle.masks.specs.Masks.{maskBit}
+use Rattle.masks.specs.Inner.{nextOne}
 use Rattle.masks.proofs.Laws.{next-end}
 use Rattle.masks.proofs.Words.{next-in-word, next-past-word}
 use Rattle.masks.proofs.next_in_words.Statement.{statement}
@@ -17,21 +18,6 @@ Inv-loop s at n from i₀ i = (i ≤ n) × (i % 8 ≡ 0) × (nextOne (maskBit s 
 abbrev μ-loop : tie.MeasureT-loop
 μ-loop s at n from i₀ i = n - i
 
-loop-holds : tie.Need-loop-holds Inv-loop μ-loop
-loop-holds c = search needs
-
-word-requires : tie.Need-word-requires Inv-loop μ-loop
-word-requires c κs = search needs
-
-cast-t8 : tie.Need-cast-t8 Inv-loop μ-loop
-cast-t8 c = search needs
-
-mul-t9 : tie.Need-mul-t9 Inv-loop μ-loop
-mul-t9 c = search needs
-
-add-t11 : tie.Need-add-t11 Inv-loop μ-loop
-add-t11 c = omega (arith, trailing-le 64 (c .before .word .result))
-
 returns : tie.Need-returns Inv-loop μ-loop
 returns c =
     let l = c .before .before .before in
@@ -40,12 +26,6 @@ returns c =
     let p = 8 * l .loop .i in
     let o = next-in-word f p _ (c .before .word .ensures) 0 _ p (omega arith) (add-zero p) (c .if1 .taken) (8 * a .n) (omega arith) in
     sym o ∙ l .loop .inv .2
-
-add-i : tie.Need-add-i Inv-loop μ-loop
-add-i c = search needs
-
-loop-less : tie.Need-loop-less Inv-loop μ-loop
-loop-less c = omega arith
 
 loop-again : tie.Need-loop-again Inv-loop μ-loop
 loop-again c =
@@ -69,13 +49,13 @@ next-in-words-spec =
     (tie.spec
     Inv-loop
     μ-loop
-    loop-holds
-    word-requires
-    cast-t8
-    mul-t9
-    add-t11
+    (λ c. search needs)
+    (λ c κs. search needs)
+    (λ c. search needs)
+    (λ c. search needs)
+    (λ c. omega (arith, trailing-le 64 (c .before .word .result)))
     returns
-    add-i
-    loop-less
+    (λ c. search needs)
+    (λ c. omega arith)
     loop-again
     returns-2)

@@ -10,25 +10,10 @@ use Rattle.masks.proofs.Words.{next-in-word, next-past-word}
 use Rattle.masks.proofs.next_one.Statement.{statement}
 use Rattle.masks.proofs.next_one.Tie as tie
 
-cast-q : tie.Need-cast-q
-cast-q c = search needs
-
-mul-i : tie.Need-mul-i
-mul-i c = search needs
-
 returns : tie.Need-returns
 returns c =
     let a = c .before .before .args in
     sym (next-end (maskBit (a .s .now) (a .at)) (8 * a .n) (a .p .0) (omega arith))
-
-word-requires : tie.Need-word-requires
-word-requires c κs = search needs
-
-high-bits-requires : tie.Need-high-bits-requires
-high-bits-requires c κs = search needs
-
-add-t13 : tie.Need-add-t13
-add-t13 c = omega (arith, trailing-le 64 (c .before .high-bits .result))
 
 returns-2 : tie.Need-returns-2
 returns-2 c =
@@ -38,12 +23,6 @@ returns-2 c =
     sym
     (next-in-word f (8 * (q / 64 * 8)) _ (c .before .before .word .ensures) (q % 64) _ q (c .before .high-bits .ensures) (omega arith)
     (λ e. omega arith) (8 * a .n) (omega arith))
-
-add-next-in-words : tie.Need-add-next-in-words
-add-next-in-words c = search needs
-
-next-in-words-requires : tie.Need-next-in-words-requires
-next-in-words-requires c κs = search needs
 
 returns-3 : tie.Need-returns-3
 returns-3 c =
@@ -60,13 +39,13 @@ pub next-one-spec : {M : Type 1} → statement M
 next-one-spec =
     tie.close
     (tie.spec
-    cast-q
-    mul-i
+    (λ c. search needs)
+    (λ c. search needs)
     returns
-    word-requires
-    high-bits-requires
-    add-t13
+    (λ c κs. search needs)
+    (λ c κs. search needs)
+    (λ c. omega (arith, trailing-le 64 (c .before .high-bits .result)))
     returns-2
-    add-next-in-words
-    next-in-words-requires
+    (λ c. search needs)
+    (λ c κs. search needs)
     returns-3)

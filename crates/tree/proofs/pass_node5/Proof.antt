@@ -1,74 +1,34 @@
 use borrow.Author.Needs.{needs}
-use Rattle.tree.proofs.Passing.{node5-fails, node5-passed}
-use Rattle.tree.specs.Passing.{passing, plus4, saysPassed}
-use Rattle.tree.specs.Topology.{childField}
-use Rattle.nodes.proofs.Laws.{node-back}
-use Rattle.nodes.specs.Answers.{saysNode}
-use Rattle.masks.proofs.Laws.{count-le}
-use Rattle.masks.specs.Masks.{maskBit, countBelow, ones}
-use Rattle.fields.proofs.Laws.{told}
-use lib.Dec.{lit≤}
-use Prim.Native.Nat.{ℕ, _+_}
-use mathlib.Core.Path.{_≡_, refl, sym, ap, _∙_}
 use native.Mathlib.Omega.{arith}
+use mathlib.Core.Path.{refl}
+use lib.Dec.{lit≤}
+use Rattle.fields.proofs.Laws.{then-got, told}
+use Rattle.fields.proofs.Steps.{steps, then-by}
+use Rattle.nodes.specs.Inner.{saysNode}
+use Rattle.nodes.proofs.Laws.{node-back}
+use Rattle.tree.specs.Inner.{passingNode}
 use Rattle.tree.proofs.pass_node5.Statement.{statement}
 use Rattle.tree.proofs.pass_node5.Tie as tie
 
-read-node-header-requires : tie.Need-read-node-header-requires
-read-node-header-requires c κs = (refl, lit≤ tt, c .before .before .pre .1)
-
-enum-known-k : tie.Need-enum-known-k
-enum-known-k c = search needs
-
-enum-known-h : tie.Need-enum-known-h
-enum-known-h c = search needs
-
-count-ones-requires : tie.Need-count-ones-requires
-count-ones-requires c κs = node-back 4096 _ _ _ refl (lit≤ tt) _ _ (told saysNode (c .before .h .given .1) (c .before .before .before .read-node-header .ensures)) .value
-
-wide-requires : tie.Need-wide-requires
-wide-requires c κs = search needs
-
-add-t19 : tie.Need-add-t19
-add-t19 c = record { fits = omega (arith, c .before .before .before .before .before .before .before .before .pre .0 .tiles, c .before .before .before .before .before .before .before .before .pre .0 .inside, c .before .before .before .before .before .before .before .before .pre .0 .small, c .wide .ensures, c .before .count-ones .ensures, count-le (maskBit (c .before .before .before .before .before .before .before .before .args .s .now) (c .before .before .before .h .given .0 .0 .value)) 32768) }
-
-pass-nodes-requires : tie.Need-pass-nodes-requires
-pass-nodes-requires c κs =
-    let b = node-back 4096 _ _ _ refl (lit≤ tt) _ _ (told saysNode (c .before .before .before .h .given .1) (c .before .before .before .before .before .read-node-header .ensures)) in (
-      record {
-        inside = b .inside;
-        small = c .before .before .before .before .before .before .before .before .pre .0 .small;
-        tiles = omega (arith, c .before .before .before .before .before .before .before .before .pre .0 .tiles, b .after, c .wide .ensures, c .before .count-ones .ensures, count-le (maskBit (c .before .before .before .before .before .before .before .before .args .s .now) (c .before .before .before .h .given .0 .0 .value)) 32768);
-        leaves = omega (arith, c .before .before .before .before .before .before .before .before .pre .0 .leaves, b .after);
-        voxels = c .before .before .before .before .before .before .before .before .pre .0 .voxels;
-      },
-      c .before .before .before .before .before .before .before .before .pre .1,
-      c .before .before .before .before .before .before .before .before .pre .2,
-      b .child,
-    )
-
-returns : tie.Need-returns
-returns c = (node5-fails _ _ _ _ _ _ _ (told saysNode (c .before .k .given .1) (c .before .before .before .read-node-header .ensures)), tt)
-
 returns-2 : tie.Need-returns-2
+unfolding passingNode
 returns-2 c =
-    let n = c .before .wide .ensures ∙ c .before .before .count-ones .ensures in (
-      c .pass-nodes .ensures .0
-          ∙ ap (λ (k : ℕ). passing (childField (c .before .before .before .before .before .before .before .before .before .args .s .now) (c .before .before .before .before .before .before .before .before .before .args .c) (c .before .before .before .before .before .before .before .before .before .args .origin)) (plus4 (c .before .before .before .before .before .before .before .before .before .args .s .now) (c .before .before .before .before .before .before .before .before .before .args .c) (c .before .before .before .before .before .before .before .before .before .args .wanted)) (record { tiles = c .before .before .before .before .before .before .before .before .before .args .t .tiles + k; blocks = saysPassed (c .before .before .before .before .before .before .before .before .before .args .t .blocks) }) (ones (maskBit (c .before .before .before .before .before .before .before .before .before .args .s .now) (c .before .before .before .before .h .given .0 .0 .child)) 32768) (c .before .before .before .before .h .given .0 .1 .0)) n
-          ∙ node5-passed _ _ _ _ _ _ _ _ (told saysNode (c .before .before .before .before .h .given .1) (c .before .before .before .before .before .before .read-node-header .ensures)),
+    let e = c .before .enter-node .ensures in (
+      then-got _ (told saysNode (c .before .before .before .h .given .1) (c .before .before .before .before .before .read-node-header .ensures)) (rw (e .0, e .1) at (c .pass-nodes .ensures .0)),
       c .pass-nodes .ensures .1,
     )
 
 pub pass-node5-spec : {M : Type 1} → statement M
+unfolding passingNode
 pass-node5-spec =
     tie.close
-    (tie.spec
-    read-node-header-requires
-    enum-known-k
-    enum-known-h
-    count-ones-requires
-    wide-requires
-    add-t19
-    pass-nodes-requires
-    returns
-    returns-2)
+    (tie.spec (λ c κs. (refl, lit≤ tt, c .before .pre .1)) (λ c. search needs) (λ c. search needs)
+    (λ c κs.
+    let p = c .before .before .before .before .before .pre in
+    let b = node-back 4096 _ _ _ refl (lit≤ tt) _ _ (told saysNode (c .before .h .given .1) (c .before .before .before .read-node-header .ensures)) in
+    (p .0, b .value, omega (arith, b .after), b .inside))
+    (λ c κs.
+    let p = c .before .before .before .before .before .before .pre in
+    let b = node-back 4096 _ _ _ refl (lit≤ tt) _ _ (told saysNode (c .before .before .h .given .1) (c .before .before .before .before .read-node-header .ensures)) in
+    (c .enter-node .ensures .2, p .1, p .2, b .child))
+    (λ c. (search (steps, then-by saysNode), tt)) returns-2)

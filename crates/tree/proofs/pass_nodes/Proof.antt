@@ -1,13 +1,16 @@
 use borrow.Author.Needs.{needs}
-use Rattle.masks.proofs.Laws.{next-lt, next-from}
-use Rattle.tree.proofs.Passing.{ones-none, ones-more, ones-fails}
-use Rattle.tree.specs.Passing.{plus4, passing, totalsOf, saysPass, Few, fewField}
-use Rattle.tree.specs.Topology.{childField}
-use Rattle.masks.specs.Masks.{maskBit, ones, onesFrom, saysNext}
-use Rattle.fields.proofs.Laws.{told}
-use Prim.Native.Nat.{ℕ, _≤_, _-_, _+_}
-use mathlib.Core.Path.{_≡_, refl, sym, ap, _∙_, subst}
 use native.Mathlib.Omega.{arith}
+use mathlib.Core.Bool.{Bool}
+use mathlib.Core.Option.{some}
+use mathlib.Core.Path.{_≡_, refl, sym, _∙_, subst}
+use Prim.Native.Nat.{ℕ, _≤_, _<_, _-_}
+use Rattle.fields.proofs.Laws.{told}
+use Rattle.masks.specs.Masks.{maskBit, ones, onesFrom}
+use Rattle.masks.specs.Inner.{nextOne, saysNext}
+use Rattle.masks.proofs.Laws.{next-lt, next-from}
+use Rattle.tree.specs.Topology.{childField}
+use Rattle.tree.specs.Inner.{plus4, passing, totalsOf, saysPass, Few, fewField}
+use Rattle.tree.proofs.Passing.{ones-none, ones-more, ones-fails}
 use Rattle.tree.proofs.pass_nodes.Statement.{statement}
 use Rattle.tree.proofs.pass_nodes.Tie as tie
 
@@ -20,63 +23,52 @@ Inv-loop s c wanted origin child t₀ from₀ t from = (from ≤ 32768)
 abbrev μ-loop : tie.MeasureT-loop
 μ-loop s c wanted origin child t₀ from₀ t from = 32768 - from
 
-loop-holds : tie.Need-loop-holds Inv-loop μ-loop
-loop-holds c = (search needs, refl, c .before .pre .0)
+abbrev bits : tie.Start Inv-loop μ-loop → ℕ → Bool
+bits p = maskBit (p .args .s .now) (p .args .child)
 
-next-one-requires : tie.Need-next-one-requires Inv-loop μ-loop
-next-one-requires c κs = (c .before .before .pre .3, c .loop .inv .0)
+-- The next child's place.
+module _ (n : tie.After-known-told Inv-loop μ-loop) where
+  abbrev loop : tie.At-loop Inv-loop μ-loop
+  loop = n .before .before .before .before
 
-enum-known-p : tie.Need-enum-known-p Inv-loop μ-loop
-enum-known-p c = search needs
+  next : some (n .before .p .given .0 .0 .0) ≡ nextOne (bits (n .before .before .before .before .before .before)) 32768 (loop .loop .from)
+  next = told saysNext (n .before .p .given .1) (n .before .before .before .next-one .ensures)
 
-enum-told : tie.Need-enum-told Inv-loop μ-loop
-enum-told c = search needs
+  below : n .before .p .given .0 .0 .0 < 32768
+  below = next-lt (bits (n .before .before .before .before .before .before)) 32768 _ _ (sym next)
+
+  later : loop .loop .from ≤ n .before .p .given .0 .0 .0
+  later = next-from (bits (n .before .before .before .before .before .before)) 32768 _ _ (sym next)
 
 returns : tie.Need-returns Inv-loop μ-loop
-returns c = (ones-none _ _ (maskBit (c .before .before .before .before .before .args .s .now) (c .before .before .before .before .before .args .child)) 32768 (c .before .before .before .loop .from) _ _ (told saysNext (c .enum-told .given .1) (c .before .before .next-one .ensures)) ∙ c .before .before .before .loop .inv .1, c .before .before .before .loop .inv .2)
-
-pass-child-requires : tie.Need-pass-child-requires Inv-loop μ-loop
-pass-child-requires c κs = (c .before .before .before .before .loop .inv .2, c .before .before .before .before .before .before .pre .1, c .before .before .before .before .before .before .pre .2, next-lt (maskBit (c .before .before .before .before .before .before .args .s .now) (c .before .before .before .before .before .before .args .child)) 32768 (c .before .before .before .before .loop .from) (c .before .p .given .0 .0 .0) (sym (told saysNext (c .before .p .given .1) (c .before .before .before .next-one .ensures))))
-
-enum-known-k : tie.Need-enum-known-k Inv-loop μ-loop
-enum-known-k c = search needs
+returns c =
+    let l = c .before .before .before .loop in
+    (ones-none _ _ (bits (c .before .before .before .before .before)) 32768 (l .from) _ _ (told saysNext (c .enum-told .given .1) (c .before .before .next-one .ensures)) ∙ l .inv .1, l .inv .2)
 
 returns-2 : tie.Need-returns-2 Inv-loop μ-loop
-returns-2 c = (ones-fails _ _ (maskBit (c .before .before .before .before .before .before .before .before .before .before .args .s .now) (c .before .before .before .before .before .before .before .before .before .before .args .child)) 32768 (c .before .before .before .before .before .before .before .before .loop .from) _ _ (c .before .before .before .before .before .p .given .0 .0 .0) (told saysNext (c .before .before .before .before .before .p .given .1) (c .before .before .before .before .before .before .before .next-one .ensures)) _ (told saysPass (c .before .k .given .1) (c .before .before .before .pass-child .ensures .0)) ∙ c .before .before .before .before .before .before .before .before .loop .inv .1, tt)
-
-enum-known-n : tie.Need-enum-known-n Inv-loop μ-loop
-enum-known-n c = search needs
-
-add-from : tie.Need-add-from Inv-loop μ-loop
-add-from c = omega (arith, next-lt (maskBit (c .before .before .before .before .before .before .before .before .before .before .before .args .s .now) (c .before .before .before .before .before .before .before .before .before .before .before .args .child)) 32768 (c .before .before .before .before .before .before .before .before .before .loop .from) (c .before .before .before .before .before .before .p .given .0 .0 .0) (sym (told saysNext (c .before .before .before .before .before .before .p .given .1) (c .before .before .before .before .before .before .before .before .next-one .ensures))))
-
-loop-less : tie.Need-loop-less Inv-loop μ-loop
-loop-less c =
-    let e = sym (told saysNext (c .before .before .before .before .before .before .p .given .1) (c .before .before .before .before .before .before .before .before .next-one .ensures)) in
-    omega (arith, next-lt (maskBit (c .before .before .before .before .before .before .before .before .before .before .before .args .s .now) (c .before .before .before .before .before .before .before .before .before .before .before .args .child)) 32768 (c .before .before .before .before .before .before .before .before .before .loop .from) (c .before .before .before .before .before .before .p .given .0 .0 .0) e, next-from (maskBit (c .before .before .before .before .before .before .before .before .before .before .before .args .s .now) (c .before .before .before .before .before .before .before .before .before .before .before .args .child)) 32768 (c .before .before .before .before .before .before .before .before .before .loop .from) (c .before .before .before .before .before .before .p .given .0 .0 .0) e)
+returns-2 c =
+    let n = c .before .before .before .before in
+    let refused = told saysPass (c .before .k .given .1) (c .before .before .before .pass-child .ensures .0) in
+    (ones-fails _ _ (bits (n .before .before .before .before .before .before)) 32768 _ _ _ _ (next n) _ refused ∙ loop n .loop .inv .1, tt)
 
 loop-again : tie.Need-loop-again Inv-loop μ-loop
-loop-again c = (
-  omega (arith, next-lt (maskBit (c .before .before .before .before .before .before .before .before .before .before .before .args .s .now) (c .before .before .before .before .before .before .before .before .before .before .before .args .child)) 32768 (c .before .before .before .before .before .before .before .before .before .loop .from) (c .before .before .before .before .before .before .p .given .0 .0 .0) (sym (told saysNext (c .before .before .before .before .before .before .p .given .1) (c .before .before .before .before .before .before .before .before .next-one .ensures)))),
-  ones-more _ _ (maskBit (c .before .before .before .before .before .before .before .before .before .before .before .args .s .now) (c .before .before .before .before .before .before .before .before .before .before .before .args .child)) 32768 (c .before .before .before .before .before .before .before .before .before .loop .from) _ _ (c .before .before .before .before .before .before .p .given .0 .0 .0) (told saysNext (c .before .before .before .before .before .before .p .given .1) (c .before .before .before .before .before .before .before .before .next-one .ensures)) _ _ (told saysPass (c .before .before .n .given .1) (c .before .before .before .before .pass-child .ensures .0)) ∙ c .before .before .before .before .before .before .before .before .before .loop .inv .1,
-  subst (fewField (c .before .before .before .before .before .before .before .before .before .before .before .args .s .now)) (c .before .before .n .given .1) (c .before .before .before .before .pass-child .ensures .1),
-)
+loop-again c =
+    let n = c .before .before .before .before .before in
+    let passed = told saysPass (c .before .before .n .given .1) (c .before .before .before .before .pass-child .ensures .0) in (
+      omega (arith, below n),
+      ones-more _ _ (bits (n .before .before .before .before .before .before)) 32768 _ _ _ _ (next n) _ _ passed ∙ loop n .loop .inv .1,
+      subst (fewField (n .before .before .before .before .before .before .args .s .now)) (c .before .before .n .given .1) (c .before .before .before .before .pass-child .ensures .1),
+    )
 
 pub pass-nodes-spec : {M : Type 1} → statement M
 pass-nodes-spec =
     tie.close
-    (tie.spec
-    Inv-loop
-    μ-loop
-    loop-holds
-    next-one-requires
-    enum-known-p
-    enum-told
-    returns
-    pass-child-requires
-    enum-known-k
-    returns-2
-    enum-known-n
-    add-from
-    loop-less
-    loop-again)
+    (tie.spec Inv-loop μ-loop (λ c. (search needs, refl, c .before .pre .0)) (λ c κs. (c .before .before .pre .3, c .loop .inv .0))
+    (λ c. search needs) (λ c. search needs) returns (λ c κs. (
+      loop c .loop .inv .2,
+      c .before .before .before .before .before .before .pre .1,
+      c .before .before .before .before .before .before .pre .2,
+      below c,
+    ))
+    (λ c. search needs) returns-2 (λ c. search needs) (λ c. omega (arith, below (c .before .before .before .before .before)))
+    (λ c. omega (arith, below (c .before .before .before .before .before), later (c .before .before .before .before .before))) loop-again)

@@ -1,11 +1,14 @@
 use borrow.Author.Needs.{needs}
-use Rattle.tree.proofs.Passing.{origin-aligned, roots-none, origin-fails, node-fails, roots-more}
-use Rattle.tree.specs.Passing.{passingRoots, totalsOf, saysOrigin, saysPass, Few, fewField}
+use Rattle.tree.proofs.Passing.{node5-passed, origin-aligned, roots-none, origin-fails, node-fails, roots-more}
+use Rattle.tree.specs.Inner.{passingRoots, totalsOf, saysOrigin, saysPass, Few, fewField}
 use Rattle.fields.proofs.Laws.{told}
 use lib.Seq.{take-suc-set}
 use lib.ListN.{length, take, length-set}
 use Prim.Native.Nat.{_≤_, _-_, _+_}
-use mathlib.Core.List.{[]}
+use mathlib.Core.List.{List, []}
+use Rattle.fields.specs.Parse.{got}
+use Rattle.coordinates.specs.declared.GlobalCoord.{GlobalCoord}
+use Rattle.tree.specs.Topology.{originField}
 use mathlib.Core.Path.{_≡_, refl, sym, ap, _∙_, subst}
 use native.Mathlib.Numerals.{add-one}
 use native.Mathlib.Omega.{arith}
@@ -14,87 +17,66 @@ use Rattle.tree.proofs.pass_roots.Tie as tie
 
 abbrev Inv-loop : tie.InvT-loop
 Inv-loop s c wanted count origins₀ t₀ i₀ origins t i = (i ≤ count) × (length origins ≡ 256)
-    × (passingRoots (count - i) (take i origins) s c wanted (totalsOf t) (t .at) ≡ passingRoots count [] s c wanted (totalsOf t₀) (t₀ .at))
+    × (passingRoots s c wanted (count - i) (take i origins) (totalsOf t) (t .at) ≡ passingRoots s c wanted count [] (totalsOf t₀) (t₀ .at))
     × Few s t
 
 abbrev μ-loop : tie.MeasureT-loop
 μ-loop s c wanted count origins₀ t₀ i₀ origins t i = count - i
 
-loop-holds : tie.Need-loop-holds Inv-loop μ-loop
-loop-holds c = let e : c .before .args .count - 0 ≡ c .before .args .count = omega arith in (search needs, refl, rw e, c .before .pre .0)
+-- A root whose origin was read.
+module _ (n : tie.After-known-told2 Inv-loop μ-loop) where
+  abbrev loop : tie.At-loop Inv-loop μ-loop
+  loop = n .before .before .before .before .before .before
 
-cast-n : tie.Need-cast-n Inv-loop μ-loop
-cast-n c = search needs
+  abbrev start : tie.Start Inv-loop μ-loop
+  start = n .before .before .before .before .before .before .before .before
 
-read-origin-requires : tie.Need-read-origin-requires Inv-loop μ-loop
-read-origin-requires c κs = search needs
+  abbrev earlier : List GlobalCoord
+  earlier = take (loop .loop .i) (loop .loop .origins)
 
-enum-known-k : tie.Need-enum-known-k Inv-loop μ-loop
-enum-known-k c = search needs
-
-returns : tie.Need-returns Inv-loop μ-loop
-returns c = (origin-fails (c .before .before .before .before .before .before .before .before .args .s .now) (c .before .before .before .before .before .before .before .before .args .c) (c .before .before .before .before .before .before .before .before .args .wanted) (totalsOf (c .before .before .before .before .before .before .loop .t)) (c .before .before .before .before .before .before .loop .i) (c .before .before .before .before .before .before .before .before .args .count) (c .before .before .before .before .before .before .loop .t .at) (take (c .before .before .before .before .before .before .loop .i) (c .before .before .before .before .before .before .loop .origins)) _ (omega arith) (told saysOrigin (c .before .k .given .1) (c .before .before .before .read-origin .ensures)) ∙ c .before .before .before .before .before .before .loop .inv .2, tt)
-
-enum-known-o : tie.Need-enum-known-o Inv-loop μ-loop
-enum-known-o c = search needs
+  origin-read : got (n .before .o .given .0 .0) (n .before .o .given .0 .1 .0) ≡ originField (start .args .s .now) earlier (loop .loop .t .at)
+  origin-read = told saysOrigin (n .before .o .given .1) (n .before .before .before .read-origin .ensures)
 
 pass-node5-requires : tie.Need-pass-node5-requires Inv-loop μ-loop
 pass-node5-requires c κs =
-    let b = origin-aligned _ _ _ _ _ (told saysOrigin (c .before .o .given .1) (c .before .before .before .read-origin .ensures)) in
-    let f = c .before .before .before .before .before .before .loop .inv .3 in
-    (record { inside = b .2; small = f .small; tiles = omega (arith, f .tiles, b .1); leaves = omega (arith, f .leaves, b .1); voxels = f .voxels }, c .before .before .before .before .before .before .before .before .pre .1, b .0)
+    let b = origin-aligned _ _ _ _ _ (origin-read c) in
+    let f = loop c .loop .inv .3 in
+    (record { inside = b .2; small = f .small; active-tiles = omega (arith, f .active-tiles, b .1); leaves = omega (arith, f .leaves, b .1); voxels = f .voxels }, start c .pre .1, b .0)
 
-enum-known-k-2 : tie.Need-enum-known-k-2 Inv-loop μ-loop
-enum-known-k-2 c = search needs
+returns : tie.Need-returns Inv-loop μ-loop
+returns c =
+    let l = c .before .before .before .before .before .before in
+    let refused = told saysOrigin (c .before .k .given .1) (c .before .before .before .read-origin .ensures) in
+    (origin-fails _ _ (l .before .before .args .wanted) (totalsOf (l .loop .t)) (l .loop .i) (l .before .before .args .count) _ _ _ (omega arith) refused ∙ l .loop .inv .2, tt)
 
 returns-2 : tie.Need-returns-2 Inv-loop μ-loop
-returns-2 c = (node-fails (c .before .before .before .before .before .before .before .before .before .before .before .before .args .s .now) (c .before .before .before .before .before .before .before .before .before .before .before .before .args .c) (c .before .before .before .before .before .before .before .before .before .before .before .before .args .wanted) (totalsOf (c .before .before .before .before .before .before .before .before .before .before .loop .t)) (c .before .before .before .before .before .before .before .before .before .before .loop .i) (c .before .before .before .before .before .before .before .before .before .before .before .before .args .count) (c .before .before .before .before .before .before .before .before .before .before .loop .t .at) (take (c .before .before .before .before .before .before .before .before .before .before .loop .i) (c .before .before .before .before .before .before .before .before .before .before .loop .origins)) _ _ (omega arith) (told saysOrigin (c .before .before .before .before .before .o .given .1) (c .before .before .before .before .before .before .before .read-origin .ensures)) _ (told saysPass (c .before .k2 .given .1) (c .before .before .before .pass-node5 .ensures .0)) ∙ c .before .before .before .before .before .before .before .before .before .before .loop .inv .2, tt)
-
-enum-known-u : tie.Need-enum-known-u Inv-loop μ-loop
-enum-known-u c = search needs
-
-mul-origins : tie.Need-mul-origins Inv-loop μ-loop
-mul-origins c = search needs
-
-array-set-from-origins : tie.Need-array-set-from-origins Inv-loop μ-loop
-array-set-from-origins c = search needs
-
-add-i : tie.Need-add-i Inv-loop μ-loop
-add-i c = search needs
-
-loop-less : tie.Need-loop-less Inv-loop μ-loop
-loop-less c = search needs
+returns-2 c =
+    let n = c .before .before .before .before in
+    let refused = told saysPass (c .before .k2 .given .1) (c .before .before .before .pass-node5 .ensures .0) ∙ node5-passed _ _ _ _ _ _ in
+    (node-fails _ _ _ _ (loop n .loop .i) (start n .args .count) _ (earlier n) _ _ (omega arith) (origin-read n) _ refused ∙ loop n .loop .inv .2, tt)
 
 loop-again : tie.Need-loop-again Inv-loop μ-loop
-loop-again c = (
-  omega arith,
-  simp length-set (omega arith),
-  roots-more (c .before .before .before .before .before .before .before .before .before .before .before .before .args .s .now) (c .before .before .before .before .before .before .before .before .before .before .before .before .args .c) (c .before .before .before .before .before .before .before .before .before .before .before .before .args .wanted) (totalsOf (c .before .before .before .before .before .before .before .before .before .before .loop .t)) (c .before .before .before .before .before .before .before .before .before .before .loop .i) (c .before .before .before .before .before .before .before .before .before .before .before .before .args .count) (c .before .before .before .before .before .before .before .before .before .before .loop .t .at) (take (c .before .before .before .before .before .before .before .before .before .before .loop .i) (c .before .before .before .before .before .before .before .before .before .before .loop .origins)) _ _ (omega arith) (told saysOrigin (c .before .before .before .before .before .o .given .1) (c .before .before .before .before .before .before .before .read-origin .ensures)) _ _ _ (rw (add-one (c .before .before .before .before .before .before .before .before .before .before .loop .i)) (take-suc-set (c .before .before .before .before .before .before .before .before .before .before .loop .origins) (c .before .before .before .before .before .before .before .before .before .before .loop .i) _ (omega arith))) (told saysPass (c .before .u .given .1) (c .before .before .before .pass-node5 .ensures .0)) ∙ c .before .before .before .before .before .before .before .before .before .before .loop .inv .2,
-  subst (fewField (c .before .before .before .before .before .before .before .before .before .before .before .before .args .s .now)) (c .before .u .given .1) (c .before .before .before .pass-node5 .ensures .1),
-)
+loop-again c =
+    let n = c .before .before .before .before in
+    let i = loop n .loop .i in
+    let passed = told saysPass (c .before .u .given .1) (c .before .before .before .pass-node5 .ensures .0) ∙ node5-passed _ _ _ _ _ _ in (
+      omega arith,
+      simp length-set (omega arith),
+      roots-more _ _ _ _ i (start n .args .count) _ (earlier n) _ _ (omega arith) (origin-read n) _ _ _
+          (rw (add-one i) (take-suc-set (loop n .loop .origins) i _ (omega arith))) passed
+          ∙ loop n .loop .inv .2,
+      subst (fewField (start n .args .s .now)) (c .before .u .given .1) (c .before .before .before .pass-node5 .ensures .1),
+    )
 
 returns-3 : tie.Need-returns-3 Inv-loop μ-loop
-returns-3 c = (roots-none (c .before .before .before .args .s .now) (c .before .before .before .args .c) (c .before .before .before .args .wanted) (totalsOf (c .before .loop .t)) (c .before .loop .i) (c .before .before .before .args .count) (c .before .loop .t .at) (take (c .before .loop .i) (c .before .loop .origins)) (omega arith) ∙ c .before .loop .inv .2, c .before .loop .inv .3)
+returns-3 c =
+    let l = c .before in
+    (roots-none _ _ (l .before .before .args .wanted) (totalsOf (l .loop .t)) (l .loop .i) (l .before .before .args .count) _ _ (omega arith) ∙ l .loop .inv .2, l .loop .inv .3)
 
 pub pass-roots-spec : {M : Type 1} → statement M
 pass-roots-spec =
     tie.close
-    (tie.spec
-    Inv-loop
-    μ-loop
-    loop-holds
-    cast-n
-    read-origin-requires
-    enum-known-k
-    returns
-    enum-known-o
-    pass-node5-requires
-    enum-known-k-2
-    returns-2
-    enum-known-u
-    mul-origins
-    array-set-from-origins
-    add-i
-    loop-less
-    loop-again
-    returns-3)
+    (tie.spec Inv-loop μ-loop
+    (λ c. let e : c .before .args .count - 0 ≡ c .before .args .count = omega arith in (search needs, refl, rw e, c .before .pre .0))
+    (λ c. search needs) (λ c κs. search needs) (λ c. search needs) returns (λ c. search needs) pass-node5-requires (λ c. search needs) returns-2
+    (λ c. search needs) (λ c. search needs) (λ c. search needs) (λ c. search needs) (λ c. search needs) loop-again returns-3)

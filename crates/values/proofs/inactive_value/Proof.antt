@@ -1,21 +1,18 @@
 -- The second inactive value where the place is selected, else the first.
 use borrow.Author.Needs.{needs}
-use mathlib.Core.Path.{refl}
-use Rattle.fields.proofs.Laws.{when-true, when-false, is-true, is-false}
-use Rattle.values.specs.Values.{inactiveValue}
+use Rattle.fields.specs.Parse.{when}
+use Rattle.values.specs.Values.{isSelected, inactiveValue}
 use Rattle.values.proofs.inactive_value.Statement.{statement}
 use Rattle.values.proofs.inactive_value.Tie as tie
 
-is-selected-requires : tie.Need-is-selected-requires
-is-selected-requires c κs = search needs
-
-returns : tie.Need-returns
-unfolding inactiveValue
-returns c = when-true _ (is-true (c .if1 .taken) (c .before .is-selected .ensures)) refl
-
-returns-2 : tie.Need-returns-2
-unfolding inactiveValue
-returns-2 c = when-false _ (is-false (c .if1 .left) (c .before .is-selected .ensures)) refl
-
 pub inactive-value-spec : {M : Type 1} → statement M
-inactive-value-spec = tie.close (tie.spec is-selected-requires returns returns-2)
+unfolding isSelected inactiveValue when
+inactive-value-spec =
+    tie.close
+    (tie.spec
+    (λ c. search needs)
+    (λ c κs. let p = c .before .before .before .before .pre in (rw (c .before .selection .given .1) at (p .0), p .1))
+    (λ c. rw (c .before .before .before .selection .given .1, ← c .before .bit .ensures, c .if1 .taken))
+    (λ c. search needs)
+    (λ c. rw (c .before .before .before .selection .given .1, ← c .before .bit .ensures, c .if1 .left))
+    (λ c. rw (c .enum-told .given .1)))

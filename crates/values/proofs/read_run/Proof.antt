@@ -1,20 +1,20 @@
--- The run is one field, whose length fits.
+-- The run is one field, at most as long as a 5-node's of 4-byte values.
 use borrow.Author.Needs.{needs}
+use Prim.Native.Nat.{_≤_}
+use native.Mathlib.Nat.{mul-le-mul}
 use native.Mathlib.Omega.{arith}
 use Rattle.values.specs.Values.{runField}
-use Rattle.values.proofs.Laws.{run-small}
+use Rattle.values.proofs.Laws.{count-small}
 use Rattle.values.proofs.read_run.Statement.{statement}
 use Rattle.values.proofs.read_run.Tie as tie
 
-mul-read-bytes : tie.Need-mul-read-bytes
-mul-read-bytes c = omega (arith, run-small (c .before .before .args .count) (c .before .before .args .c .width) (omega arith) (omega arith))
-
-read-bytes-requires : tie.Need-read-bytes-requires
-read-bytes-requires c κs = search needs
-
-returns : tie.Need-returns
-unfolding runField
-returns c = c .read-bytes .ensures
-
 pub read-run-spec : {M : Type 1} → statement M
-read-run-spec = tie.close (tie.spec mul-read-bytes read-bytes-requires returns)
+unfolding runField
+read-run-spec =
+    tie.close
+    (tie.spec
+    (λ c κs. search needs)
+    (λ c. let z = c .before .before .before .pre in let small : c .before .count-of .result ≤ 32768 = rw (c .before .count-of .ensures) (count-small _ _ (z .0 .small)) in
+    omega (arith, mul-le-mul small (z .2 .1)))
+    (λ c κs. search needs)
+    (λ c. rw (← c .before .before .count-of .ensures) (c .read-bytes .ensures)))

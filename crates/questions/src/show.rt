@@ -1,0 +1,117 @@
+// What is printed of the answers: numbers and bytes, each after a space. There are few byte strings here, as each of them costs its proof.
+use fields::DVec3;
+use fields::IVec3;
+use fields::Span;
+
+// One character, as it is.
+pub fn letter(c: u8) {
+    io::write_all(1, &[c]);
+}
+
+fn space() {
+    letter(b' ');
+}
+
+// A letter that says which case it is.
+pub fn tag(c: u8) {
+    space();
+    letter(c);
+}
+
+pub fn number(n: u64) {
+    space();
+    report::number(n);
+}
+
+pub fn size(n: usize) {
+    number(n as u64);
+}
+
+pub fn small(n: u32) {
+    number(n as u64);
+}
+
+pub fn flag(b: bool) {
+    number(b as u64);
+}
+
+// A pattern of 32 bits.
+pub fn pattern(n: u32) {
+    wide(n as u64);
+}
+
+pub fn wide(n: u64) {
+    space();
+    io::print_hex(1, n, 8);
+}
+
+pub fn signed(n: i64) {
+    space();
+    report::signed(n);
+}
+
+pub fn signed32(n: i32) {
+    space();
+    report::signed32(n);
+}
+
+pub fn i_vec3(v: IVec3) {
+    signed32(v.x);
+    signed32(v.y);
+    signed32(v.z);
+}
+
+pub fn refused(k: u32) {
+    report::text(b" refused");
+    small(k);
+}
+
+pub fn nothing() {
+    report::text(b" nothing");
+}
+
+// A byte of a name; one that is no letter in hexadecimal digits.
+fn shown(c: u8) {
+    match c {
+        b' '..=b'~' => letter(c),
+        _ => {
+            letter(b'\\');
+            io::print_hex(1, c as u64, 2);
+        }
+    }
+}
+
+fn bytes(t: &[u8]) {
+    for i in 0..t.len() {
+        shown(t[i]);
+    }
+}
+
+// Start, length and the bytes themselves.
+pub fn span(s: &[u8], w: Span) {
+    size(w.start);
+    size(w.len);
+    tag(b'"');
+    bytes(fields::bytes_of(s, w));
+    letter(b'"');
+}
+
+fn bits(n: u64) {
+    space();
+    io::print_hex(1, n, 16);
+}
+
+// The double's pattern; a NaN has no one pattern.
+pub fn double(x: f64) {
+    if x != x {
+        report::text(b" nan");
+    } else {
+        bits(f64::to_bits(x));
+    }
+}
+
+pub fn d_vec3(v: DVec3) {
+    double(v.x);
+    double(v.y);
+    double(v.z);
+}

@@ -1,0 +1,82 @@
+-- Section 7 and demand 3: the active list covers each voxel that the masks make active, once, and no other.
+use mathlib.Core.Path.{_≡_, refl, sym, ap, _∙_}
+use mathlib.Core.Logic.{_↔_}
+use mathlib.Core.List.{List, [], _∷_, List·Memᴰ, List·Memᴰ·head, List·Memᴰ·not-nil, List·Memᴰ·eq-of-singleton}
+use mathlib.Core.Bool.{Bool, true, false}
+use Prim.Native.Nat.{ℕ, _≤_, _<_}
+use native.Mathlib.Omega.{arith}
+use lib.ListN.{length, getD}
+use Rattle.fields.specs.Parse.{got, when}
+use Rattle.coordinates.specs.declared.GlobalCoord.{GlobalCoord}
+use Rattle.values.specs.declared.Coding.{Coding}
+use Rattle.tree.specs.Topology.{Tree, isAmong, topology}
+use Rattle.tree.specs.Blocks.{Filled5, blocksField}
+use Rattle.tree.specs.Active.{Record, Spot, coveredBy, pieces, recordsOf, activeList, spot}
+use Rattle.tree.specs.Inner.{covering, named}
+use Rattle.tree.proofs.Lists.{Paired, kept-joined, kept-from, kept-to, kept-two}
+use Rattle.tree.proofs.Read.{Fills5, tree-read, same-tree}
+use Rattle.tree.proofs.Cover.{roots-cover}
+
+named-to : (t : Spot) (r : Record) → List·Memᴰ r (named t) → (t .active ≡ true) × (t .place ≡ r)
+unfolding when
+named-to t r = go (t .active)
+  where
+    go : (b : Bool) → List·Memᴰ r (when b (t .place ∷ []) []) → (b ≡ true) × (t .place ≡ r)
+    go true m = (refl, sym (List·Memᴰ·eq-of-singleton m))
+    go false m = absurd (List·Memᴰ·not-nil m)
+
+named-from : (t : Spot) (r : Record) → t .active ≡ true → t .place ≡ r → List·Memᴰ r (named t)
+unfolding when
+named-from t r e p = rw e (List·Memᴰ·head (sym p))
+
+named-length : (t : Spot) → length (named t) ≤ 1
+unfolding when
+named-length t = go (t .active)
+  where
+    go : (b : Bool) → length (when b (t .place ∷ []) []) ≤ 1
+    go true = omega arith
+    go false = omega arith
+
+-- A tree that was read from the bytes s, and the blocks that were read for it, wherever they stand.
+pub record Parsed (s : List ℕ) (c : Coding) (tree : Tree) (filled : List Filled5) : Type 0 where
+  pub limit : ℕ
+  pub start : ℕ
+  pub end : ℕ
+  pub block : ℕ
+  pub past : ℕ
+  pub topology-read : got tree end ≡ topology s c limit start
+  pub blocks-read : got filled past ≡ blocksField s c (tree .roots) block
+
+module _ {s : List ℕ} {c : Coding} {tree : Tree} {filled : List Filled5} (t : Parsed s c tree filled) where
+  same : Paired (Fills5 s) (tree .roots) filled
+  same = same-tree s c (tree .roots) (t .block) filled (t .past) (t .blocks-read)
+
+  -- The records of the active list that cover a voxel, in list order: the one that the descent names, where it says active, else none.
+  pub coverage : (v : GlobalCoord) → covering v (activeList s c filled) ≡ named (spot s c (tree .head .background) filled v)
+  unfolding pieces isAmong when
+  coverage v =
+      kept-joined (λ r. coveredBy r v) (recordsOf s c) (pieces filled)
+      ∙ roots-cover s c v (tree .head .background) (tree .roots) filled [] (tree-read s c (t .limit) (t .start) tree (t .end) (t .topology-read)) same
+
+  -- A record is listed and covers a voxel exactly when the descent says that the voxel is active, with this record's corner, level and value.
+  pub listed-covers : (r : Record) (v : GlobalCoord) →
+      (List·Memᴰ r (activeList s c filled) × (coveredBy r v ≡ true)) ↔ ((spot s c (tree .head .background) filled v .active ≡ true) × (spot s c (tree .head .background) filled v .place ≡ r))
+  unfolding when
+  listed-covers r v = (
+    λ h. named-to _ r (rw (coverage v) at (kept-from (λ r. coveredBy r v) r (activeList s c filled) (h .0) (h .1))),
+    λ h. kept-to (λ r. coveredBy r v) r (activeList s c filled) (rw (coverage v) (named-from _ r (h .0) (h .1))),
+  )
+
+  -- A voxel is covered by a listed record exactly when the descent says that it is active.
+  pub covered-spot : (v : GlobalCoord) → ((r : Record) × List·Memᴰ r (activeList s c filled) × (coveredBy r v ≡ true)) ↔ (spot s c (tree .head .background) filled v .active ≡ true)
+  covered-spot v = (
+    λ h. listed-covers (h .0) v .0 (h .1, h .2) .0,
+    λ h. let k = listed-covers _ v .1 (h, refl) in (_, k .0, k .1),
+  )
+
+  -- No two records of the list cover a common voxel.
+  pub records-apart :
+      (v : GlobalCoord) (i j : ℕ) (d : Record) → i < j → j < length (activeList s c filled) → coveredBy (getD (activeList s c filled) i d) v ≡ true →
+      coveredBy (getD (activeList s c filled) j d) v ≡ true → ⊥
+  records-apart v i j d h k x y =
+      omega (arith, kept-two (λ r. coveredBy r v) (activeList s c filled) i j d h k x y, ap length (coverage v), named-length (spot s c (tree .head .background) filled v))

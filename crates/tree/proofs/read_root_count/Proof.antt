@@ -1,0 +1,13 @@
+use borrow.Author.Needs.{needs}
+use Rattle.fields.specs.Inner.{saysU32}
+use Rattle.fields.proofs.Steps.{steps, then-by}
+use Rattle.tree.specs.Topology.{rootCountField}
+use Rattle.tree.proofs.read_root_count.Statement.{statement}
+use Rattle.tree.proofs.read_root_count.Tie as tie
+
+pub read-root-count-spec : {M : Type 1} → statement M
+unfolding rootCountField
+read-root-count-spec =
+    tie.close
+    (tie.spec (λ c κs. search needs) (λ c. search needs) (λ c. search needs)
+    (λ c. search (steps, then-by saysU32)) (λ c. search (steps, then-by saysU32)) (λ c. search (steps, then-by saysU32)))

@@ -1,0 +1,118 @@
+"""Questions to the ten calls, with the answers of the reader in document.py."""
+import document
+from document import File, Opened, Refused
+from program import Program, changes, in_quotes, spelt, summed
+
+SLOTS = 600
+
+
+def answered(call):
+    try:
+        return call()
+    except Refused as refusal:
+        return ' refused %d' % refusal.args
+
+
+def refusal(call):
+    """The refusal's number, 0 where there is none."""
+    try:
+        call()
+    except Refused as refusal:
+        return refusal.args[0]
+    return 0
+
+
+def span(found):
+    return ' %d %d %s' % (found[0], found[1], in_quotes(found[2]))
+
+
+def numbers(*found):
+    return ''.join(' %d' % number for number in found)
+
+
+def header(file):
+    return numbers(file.version, *file.library, file.packed, file.metadata, len(file.grids)) + span(file.identity)
+
+
+def descriptor(grid):
+    return (span(grid.name) + span(grid.type) + span(grid.parent)
+            + numbers(grid.grid, grid.block, grid.end, grid.flags, grid.metadata, grid.tree))
+
+
+def value(found):
+    letter, *rest = found
+    if letter in 'so':
+        return ' ' + letter + ''.join(map(span, rest))
+    return ' ' + letter + (' %08x' % rest[0] if letter == 'f' else numbers(*rest[0]))
+
+
+def double(pattern):
+    return ' nan' if pattern & 2 ** 63 - 1 > 0x7ff << 52 else ' %016x' % pattern
+
+
+def shown_map(found):
+    case, doubles = found
+    return ' ' + case + ''.join(map(double, doubles))
+
+
+def opened(grid):
+    return shown_map(grid.map) + ' %08x %d %d' % (grid.background, grid.roots, grid.records)
+
+
+def after_fill(answer, values, whole):
+    """The slots held 7 before; those behind the lent ones still do."""
+    slots = values + [7] * (SLOTS - len(values))
+    return answer + (changes(slots, 0, '%08x') if whole else '') + summed(slots)
+
+
+def asked_for(words, asked):
+    """A number as one word more, a name behind a colon."""
+    return '%s %d' % (words, asked) if isinstance(asked, int) else '%s: %s' % (words, named(asked))
+
+
+def named(name):
+    if all(32 <= b < 127 and b != 34 for b in name):
+        return '"%s"' % name.decode()
+    return spelt(name)
+
+
+class Questions(Program):
+    def header(self):
+        self.ask('header', answered(lambda: header(File(self.file()))))
+
+    def descriptor(self, asked):
+        self.ask(asked_for('descriptor', asked), answered(lambda: descriptor(File(self.file()).grid(asked))))
+
+    def entry(self, name):
+        self.ask('entry: ' + named(name), answered(lambda: value(document.entry(File(self.file()).entries, name))))
+
+    def metadata(self, asked, name):
+        line = 'metadata %d: %s' % (asked, named(name)) if isinstance(asked, int) \
+            else 'metadata: %s, %s' % (named(asked), named(name))
+        self.ask(line, answered(lambda: value(document.entry(File(self.file()).grid(asked).entries, name))))
+
+    def open(self, asked):
+        self.ask(asked_for('open', asked), answered(lambda: opened(Opened(self.file(), asked))))
+
+    def fill(self, asked, leaf, slots=512, word='fill'):
+        answer, values = ' f', []
+        try:
+            values = Opened(self.file(), asked).fill(leaf, slots)
+        except Refused as refused:
+            answer = ' refused %d' % refused.args
+        self.ask(asked_for('%s %d %d' % (word, leaf, slots), asked), after_fill(answer, values, word == 'values'))
+
+    def values(self, asked, leaf, slots=512):
+        self.fill(asked, leaf, slots, 'values')
+
+    def row(self, word, start, end, call):
+        """The refusals of the file cut to each of these lengths."""
+        data = memoryview(self.file())
+        found = [refusal(lambda: call(data[:length])) for length in range(start, end)]
+        self.ask('%s %d %d' % (word, start, end), changes(found, start, '%d') + summed(found))
+
+    def cuts(self, start, end):
+        self.row('cuts', start, end, lambda data: Opened(data, 0))
+
+    def trims(self, start, end):
+        self.row('trims', start, end, File)

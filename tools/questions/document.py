@@ -1,0 +1,264 @@
+"""A reader by document 01, section by section, and by nothing else. It says what crates/questions must answer."""
+import struct
+
+
+class Refused(Exception):
+    """The number of the check that fails."""
+
+
+def check(condition, number):
+    if not condition:
+        raise Refused(number)
+
+
+# Section 1
+
+class Reader:
+    """The file's bytes with a reading position. A field is whole (check 2) before it is looked at."""
+
+    def __init__(self, data, at=0):
+        self.data, self.at = data, at
+
+    def take(self, size):
+        check(self.at + size <= len(self.data), 2)
+        self.at += size
+        return self.data[self.at - size:self.at]
+
+    def numbers(self, form):
+        return struct.unpack('<' + form, self.take(struct.calcsize('<' + form)))
+
+    def u8(self):
+        return self.numbers('B')[0]
+
+    def u32(self):
+        return self.numbers('I')[0]
+
+    def span(self, length):
+        """Bytes: their start, their length, themselves."""
+        start = self.at
+        return start, length, self.take(length)
+
+    def string(self):
+        return self.span(self.u32())
+
+    def mask(self, places):
+        """Bit p of the number is place p."""
+        return int.from_bytes(self.take(places // 8), 'little')
+
+    def position(self):
+        found, = self.numbers('Q')
+        check(found <= len(self.data), 9)
+        return found
+
+
+# Section 2
+
+FIXED = {b'bool': ('b', '?'), b'int32': ('i', 'i'), b'int64': ('l', 'q'), b'float': ('f', 'I'), b'vec3i': ('v', 'iii')}
+
+
+def metadata(reader):
+    """The entries: name, a letter for the kind, the value."""
+    entries = []
+    for _ in range(reader.u32()):
+        name, kind, length = reader.string(), reader.string(), reader.u32()
+        if kind[2] == b'string':
+            value = 's', reader.span(length)
+        elif kind[2] in FIXED:
+            letter, form = FIXED[kind[2]]
+            value = letter, reader.numbers(form)
+        else:
+            value = 'o', kind, reader.span(length)
+        entries.append((name[2], value))
+    return entries
+
+
+def entry(entries, name):
+    """A later entry of one name replaces the earlier."""
+    found = [value for other, value in entries if other == name]
+    check(found, 11)
+    return found[-1]
+
+
+class Grid:
+    """A descriptor, with the flags and the metadata that it leads to."""
+
+    def __init__(self, reader, version, packed):
+        self.name, self.type, self.parent = reader.string(), reader.string(), reader.string()
+        self.grid, self.block, self.end = reader.position(), reader.position(), reader.position()
+        inner = Reader(reader.data, self.grid)
+        self.flags = inner.u32() if version >= 222 else int(packed)
+        check(self.flags <= 7, 7)
+        self.metadata = inner.at
+        self.entries = metadata(inner)
+        self.tree = inner.at
+
+
+class File:
+    def __init__(self, data):
+        check(len(data) <= 2147483647, 1)
+        reader = Reader(data)
+        check(reader.take(8) == bytes.fromhex('2042445600000000'), 3)
+        self.version = reader.u32()
+        check(220 <= self.version <= 224, 4)
+        self.library = reader.u32(), reader.u32()
+        check(reader.u8() == 1, 5)
+        self.packed = self.version < 222 and reader.u8() != 0
+        self.identity = reader.span(36)
+        self.metadata = reader.at
+        self.entries = metadata(reader)
+        count = reader.u32()
+        check(count <= 64, 8)
+        self.grids = []
+        for _ in range(count):
+            grid = Grid(reader, self.version, self.packed)
+            check(grid.name[2] not in [other.name[2] for other in self.grids], 10)
+            self.grids.append(grid)
+            reader.at = grid.end
+
+    def grid(self, asked):
+        """By its name or by its number from 0."""
+        found = [grid for number, grid in enumerate(self.grids) if asked in (grid.name[2], number)]
+        check(found, 11)
+        return found[0]
+
+
+# Section 3
+
+MAPS = {b'UniformScaleMap': ('s', 15), b'ScaleMap': ('s', 15),
+        b'UniformScaleTranslateMap': ('t', 18), b'ScaleTranslateMap': ('t', 18)}
+
+
+def transform(reader):
+    """Which map, and its doubles' patterns."""
+    name = reader.string()[2]
+    check(name in MAPS, 14)
+    case, count = MAPS[name]
+    return case, [reader.numbers('Q')[0] for _ in range(count)]
+
+
+# Section 5
+
+def widened(half):
+    """The pattern of the float that a half is, by its sign, exponent and fraction."""
+    sign, exponent, fraction = half >> 15, half >> 10 & 31, half & 1023
+    if exponent == 31:
+        quiet = 0x400000 if fraction else 0
+        return sign << 31 | 0x7f800000 | quiet | fraction << 13
+    value = fraction * 2.0 ** -24 if exponent == 0 else (1024 + fraction) * 2.0 ** (exponent - 25)
+    return sign << 31 | struct.unpack('<I', struct.pack('<f', value))[0]
+
+
+def ones(mask):
+    return bin(mask).count('1')
+
+
+class Coding:
+    def __init__(self, version, flags, width):
+        self.version, self.flags, self.width = version, flags, width
+
+
+class Stored:
+    """The values of a node or, where `child` is None, of a leaf."""
+
+    def __init__(self, reader, coding, places, child, value):
+        self.width = coding.width
+        self.first = self.second = self.selection = 0
+        every = (1 << places) - 1
+        if coding.version < 222:
+            self.stored = every & ~(child or 0)
+        else:
+            byte = reader.u8()
+            check(byte <= 6, 19)
+            if byte in (2, 4, 5):
+                self.first = reader.u32()
+            if byte == 5:
+                self.second = reader.u32()
+            if byte in (3, 4, 5):
+                self.selection = reader.mask(places)
+            self.stored = value if coding.flags & 2 and byte != 6 else every
+        self.run = reader.take(ones(self.stored) * self.width)
+
+    def at(self, place):
+        if not self.stored >> place & 1:
+            return self.second if self.selection >> place & 1 else self.first
+        number = ones(self.stored & (1 << place) - 1)
+        pattern = int.from_bytes(self.run[number * self.width:(number + 1) * self.width], 'little')
+        return widened(pattern) if self.width == 2 else pattern
+
+
+# Sections 4 and 6
+
+def rising(mask):
+    places = []
+    while mask:
+        places.append((mask & -mask).bit_length() - 1)
+        mask &= mask - 1
+    return places
+
+
+def moved(origin, place, side, step):
+    parts = place // side ** 2, place // side % side, place % side
+    return tuple(o + part * step for o, part in zip(origin, parts))
+
+
+def node(reader, coding, places):
+    child, value = reader.mask(places), reader.mask(places)
+    check(not child & value, 18)
+    Stored(reader, coding, places, child, value)
+    return child, value
+
+
+def topology(reader, coding):
+    """Background, number of roots, number of active places, and the leaves' origins and masks."""
+    check(reader.u32() == 1, 15)
+    background, tiles, roots = reader.u32(), reader.u32(), reader.u32()
+    check(roots <= 256, 16)
+    reader.take(17 * tiles)
+    active, leaves, origins = 0, [], set()
+    for _ in range(roots):
+        origin = reader.numbers('iii')
+        check(not any(number % 4096 for number in origin) and origin not in origins, 17)
+        origins.add(origin)
+        child5, value5 = node(reader, coding, 32768)
+        active += ones(value5)
+        for place5 in rising(child5):
+            child4, value4 = node(reader, coding, 4096)
+            active += ones(value4)
+            for place4 in rising(child4):
+                leaf = moved(moved(origin, place5, 32, 128), place4, 16, 8)
+                leaves.append((leaf, reader.mask(512)))
+    return background, roots, active, leaves
+
+
+def block(reader, coding, origin, mask):
+    check(reader.mask(512) == mask, 20)
+    if coding.version < 222:
+        check(reader.numbers('iii') == origin, 20)
+        check(reader.u8() == 1, 20)
+    return Stored(reader, coding, 512, None, mask)
+
+
+# Sections 7 and 8
+
+class Opened:
+    """A grid, by its name or its number."""
+
+    def __init__(self, data, asked):
+        file = File(data)
+        grid = file.grid(asked)
+        check(grid.type[2] in (b'Tree_float_5_4_3', b'Tree_float_5_4_3_HalfFloat'), 12)
+        check(not grid.parent[2], 13)
+        check(not grid.flags & 5, 6)
+        half = [value for name, value in grid.entries if name == b'is_saved_as_half_float'][-1:]
+        coding = Coding(file.version, grid.flags, 2 if half == [('b', (True,))] else 4)
+        reader = Reader(data, grid.tree)
+        self.map = transform(reader)
+        self.background, self.roots, self.records, leaves = topology(reader, coding)
+        reader = Reader(data, grid.block)
+        self.leaves = [block(reader, coding, origin, mask) for origin, mask in leaves]
+        self.records += sum(ones(mask) for _, mask in leaves)
+
+    def fill(self, leaf, slots):
+        """The slots' contents after the fill."""
+        check(leaf < len(self.leaves) and slots == 512, 21)
+        return [self.leaves[leaf].at(place) for place in range(512)]

@@ -1,0 +1,149 @@
+"""Files that OpenVDB has written, and what its library says of them.
+
+tools/openvdb makes the files and describes each of them, in NAME.txt and NAME.document, by a program against OpenVDB's own
+library (its README.md has the form of the lines). The answers here are those lines in another order; no .vdb file is read.
+"""
+import os
+import re
+
+from calls import after_fill, asked_for, named
+from program import in_quotes
+
+FILES = ['fog_active', 'fog_plain', 'levelset_active', 'forms_active', 'roots_active', 'half_active', 'half_plain', 'edge',
+         'several', 'refused', 'no_grids', 'stream', 'old_220', 'old_221', 'old_222', 'old_223']
+# The files of which each leaf's values are shown one by one, and not by their sum alone.
+SHOWN = ['forms_active', 'half_active']
+ENTRY = re.compile(r'entry "((?:[^"\\]|\\.)*)" "((?:[^"\\]|\\.)*)" ?(.*)')
+TEXT = re.compile(r'(\d+) (\d+) "(.*)"')
+LETTERS = {'int32': 'i', 'int64': 'l', 'float': 'f', 'vec3i': 'v'}
+
+
+def plain(shown):
+    """The bytes that are shown between quotes."""
+    return re.sub(rb'\\(x..|.)', lambda m: bytes([int(m[1][1:], 16)]) if len(m[1]) == 3 else m[1], shown.encode())
+
+
+def span(words):
+    """Of START LENGTH "TEXT"."""
+    start, length, shown = TEXT.fullmatch(words).groups()
+    return ' %s %s %s' % (start, length, in_quotes(plain(shown)))
+
+
+def entry(line):
+    """The name, and what the program answers."""
+    name, kind, value = ENTRY.fullmatch(line).groups()
+    if kind == 'string':
+        answer = ' s' + span(value)
+    elif kind == 'bool':
+        answer = ' b %d' % (value == 'true')
+    elif kind in LETTERS:
+        answer = ' %s %s' % (LETTERS[kind], value)
+    else:
+        # The kind's name stands before the length field, which stands before the value.
+        start, length, digits = (value + ' ').split(' ')[:3]
+        name_at = int(start) - 4 - len(plain(kind))
+        answer = ' o %d %d %s %s %s %s' % (name_at, len(plain(kind)), in_quotes(plain(kind)), start, length,
+                                           in_quotes(bytes.fromhex(digits)))
+    return plain(name), answer
+
+
+class Described:
+    """The lines about a file, or about one of its grids."""
+
+    def __init__(self, lines):
+        self.lines = lines
+        self.entries = dict(entry(line) for line in lines if line.startswith('entry '))
+        self.refused = ''.join(' ' + line for line in lines if line.startswith('refused '))
+
+    def field(self, label):
+        """What stands behind the first such label."""
+        return next(line[len(label) + 1:] for line in self.lines if line.startswith(label + ' '))
+
+    def header(self):
+        return self.refused or ' %s %s 0 %s %s%s' % (
+            self.field('version'), self.field('library'), self.field('metadata').split()[0], self.field('grids'),
+            span(self.field('identity')))
+
+    def name(self):
+        return plain(TEXT.fullmatch(self.field('name'))[3])
+
+    def descriptor(self):
+        return ''.join(span(self.field(label)) for label in ('name', 'type', 'parent')) + ' %s %s %s %s' % (
+            self.field('positions'), self.field('flags'), self.field('metadata').split()[0], self.field('follows'))
+
+    def opened(self):
+        case = 't' if 'Translate' in self.field('map') else 's'
+        vectors = ''.join(line[len('vector'):] for line in self.lines if line.startswith('vector '))
+        return self.refused or ' %s%s %s %s %s' % (
+            case, vectors, self.field('background'), self.field('roots'), self.field('records'))
+
+
+def described(out, name):
+    with open(os.path.join(out, name + '.txt')) as stream:
+        lines = stream.read().splitlines()
+    starts = [i for i, line in enumerate(lines) if re.fullmatch(r'grid \d+', line)] + [len(lines)]
+    return Described(lines[:starts[0]]), [Described(lines[a:b]) for a, b in zip(starts, starts[1:])]
+
+
+def leaves(out, name):
+    """The 512 patterns of each leaf, by the grid's number and the leaf's."""
+    found, grid = {}, None
+    with open(os.path.join(out, name + '.document')) as stream:
+        for words in map(str.split, stream):
+            if words[0] == 'grid':
+                grid = int(words[1])
+            elif words[0] == 'leaf':
+                values = found[grid, int(words[1])] = []
+            elif words[0] != 'refused':
+                values += [int(word, 16) for word in words]
+    return found
+
+
+def ask_entries(q, file, scopes):
+    """Each entry that is there, one that is not, and the empty name; `scopes` are the words before the name."""
+    for name in list(file.entries) + [b'absent', b'']:
+        for scope in scopes:
+            q.ask(scope + named(name), file.entries.get(name, ' refused 11'))
+
+
+def ask_leaf(q, asked, leaf, answer, values, word='fill'):
+    q.ask(asked_for('%s %d 512' % (word, leaf), asked), after_fill(answer, values, word == 'values'))
+
+
+def ask_grid(q, number, grid, found, word):
+    name = grid.name()
+    for asked in (number, name):
+        q.ask(asked_for('descriptor', asked), grid.descriptor())
+    ask_entries(q, grid, ['metadata %d: ' % number, 'metadata: %s, ' % named(name)])
+    for asked in (number, name):
+        q.ask(asked_for('open', asked), grid.opened())
+    count = len(found)
+    for leaf in range(count):
+        ask_leaf(q, number, leaf, ' f', found[leaf], word)
+    for asked in (number, name):
+        ask_leaf(q, asked, count, grid.refused or ' refused 21', [])
+    if count:
+        ask_leaf(q, name, count - 1, ' f', found[count - 1])
+
+
+def ask_file(q, out, name):
+    file, grids = described(out, name)
+    values = leaves(out, name)
+    q.comment('== ' + name)
+    q.load(name + '.vdb')
+    q.ask('header', file.header())
+    if file.refused:
+        return
+    ask_entries(q, file, ['entry: '])
+    for number, grid in enumerate(grids):
+        found = [values[key] for key in sorted(values) if key[0] == number]
+        ask_grid(q, number, grid, found, 'values' if name in SHOWN else 'fill')
+    for asked in (len(grids), b'absent'):
+        q.ask(asked_for('descriptor', asked), ' refused 11')
+        q.ask(asked_for('open', asked), ' refused 11')
+        ask_leaf(q, asked, 0, ' refused 11', [])
+
+
+def ask(q, out):
+    for name in FILES:
+        ask_file(q, out, name)
