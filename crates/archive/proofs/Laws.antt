@@ -16,25 +16,13 @@ use Rattle.fields.specs.declared.Span.{Span}
 use Rattle.fields.proofs.Laws.{then-got, then-fails, check-passes, check-fails, then-then, told, Always, got-always, then-always, check-always}
 use Rattle.metadata.specs.Metadata.{latest}
 use Rattle.archive.specs.Answer.{Answer, gives, refuses, answer, with, present}
-use Rattle.archive.specs.Archive.{countField, header, repeated, descriptors, File, file, openFile, isAsked, AskedFile, askedOf, fileAsked}
+use Rattle.header.specs.Header.{countField, header}
+use Rattle.archive.specs.Archive.{repeated, descriptors, File, file, openFile, isAsked, AskedFile, askedOf, fileAsked}
 use Rattle.archive.specs.Inner.{nextField, gridsField}
-use Rattle.archive.specs.declared.ArchiveHeader.{ArchiveHeader}
+use Rattle.header.specs.declared.ArchiveHeader.{ArchiveHeader}
 use Rattle.archive.specs.declared.Asked.{Asked}
 use Rattle.archive.specs.declared.Asked.the-variants as A
-use Rattle.archive.specs.declared.GridDescriptor.{GridDescriptor}
-use Rattle.fields.proofs.Steps.{check-yes, check-no}
-
--- a check that a number is in a range, which is below it, above it, in it
-pub check-below : {A : Type 0} (a b n : ℕ) {k : ℕ} (p : Parse A) → n < a → fails k ≡ check (leb a n && leb n b) k p
-check-below a b n p h = check-no p refl (simp (lt-leb a n h))
-
-pub check-above : {A : Type 0} (a b n : ℕ) {k : ℕ} (p : Parse A) → a ≤ n → b < n → fails k ≡ check (leb a n && leb n b) k p
-check-above a b n p h j = check-no p refl (simp (le-leb a n h, lt-leb n b j))
-
-pub check-in : {A : Type 0} (a b n k : ℕ) {p x : Parse A} → a ≤ n → n ≤ b → x ≡ p → x ≡ check (leb a n && leb n b) k p
-check-in a b n k h j = check-yes k refl (simp (le-leb a n h, le-leb n b j))
-
-pub ruleset ranges = (check-below, check-above, check-in)
+use Rattle.descriptor.specs.declared.GridDescriptor.{GridDescriptor}
 
 -- whether a grid is asked for, by the question, however that is known
 pub asked-is : {asked asked′ : Asked} (s name : List ℕ) (i : ℕ) (d : GridDescriptor) {x : Bool} → asked ≡ asked′ → x ≡ isAsked s asked′ name i d → x ≡ isAsked s asked name i d
@@ -170,13 +158,6 @@ pub grids-all : (s : List ℕ) (h : ArchiveHeader) (asked : Asked) (name : List 
 grids-all s h asked name count at =
     let e : count - 0 ≡ count = omega arith in
     rw e
-
--- a header that was read has at most 64 grids
-pub few-grids : (s : List ℕ) → Always (λ h p. h .«grid_count» ≤ 64) (header s)
-unfolding header countField
-few-grids s =
-    check-always _ _ _ _ λ ok. then-always _ _ _ λ front p e. then-always _ _ _ λ identity q e. then-always _ _ _ λ entries r e.
-    then-always _ _ _ λ count n e. got-always _ _ _ (then-always (λ m p. m ≤ 64) _ _ (λ m p e. check-always _ _ _ _ λ ok. got-always _ _ _ (leb-true m 64 ok)) count n e)
 
 -- a file in parts: its header, then its grids with the one that is asked for
 with-answer : {A B : Type 0} (g : A → B) (m : Parse A) → with (answer m) (λ a. gives (g a)) ≡ answer (then m λ a n. got (g a) n)

@@ -1,8 +1,8 @@
 -- What the answers of the public calls say.
 use Rattle.metadata.specs.declared.MetadataValue.{MetadataValue}
 use Rattle.archive.specs.Answer.{Answer, gives, refuses}
-use Rattle.archive.specs.declared.ArchiveHeader.{ArchiveHeader}
-use Rattle.archive.specs.declared.GridDescriptor.{GridDescriptor}
+use Rattle.header.specs.declared.ArchiveHeader.{ArchiveHeader}
+use Rattle.descriptor.specs.declared.GridDescriptor.{GridDescriptor}
 use Rattle.archive.specs.declared.HeaderAnswer.{HeaderAnswer}
 use Rattle.archive.specs.declared.HeaderAnswer.the-variants.{Header as HeaderIs, Refused as HeaderRefused}
 use Rattle.archive.specs.declared.DescriptorAnswer.{DescriptorAnswer}

@@ -11,11 +11,12 @@ use Rattle.fields.proofs.Laws.{then-got, check-passes, Always, then-always, got
 use Rattle.fields.proofs.Agree.{Same, Reads, bytes-same, SameBytes, Each, Tells, part}
 use Rattle.archive.specs.Answer.{gives, refuses, present}
 use Rattle.archive.specs.Archive.{AskedFile, fileAsked}
-use Rattle.archive.specs.declared.ArchiveHeader.{ArchiveHeader}
-use Rattle.archive.specs.declared.GridDescriptor.{GridDescriptor}
+use Rattle.header.specs.declared.ArchiveHeader.{ArchiveHeader}
+use Rattle.descriptor.specs.declared.GridDescriptor.{GridDescriptor}
 use Rattle.archive.specs.declared.Asked.{Asked}
 use Rattle.archive.proofs.Laws.{with-gives, with-back, gives-same, answer-got, answer-back}
-use Rattle.archive.proofs.Agree.{Maybe, SameNames, SameOpening, opened-again}
+use Rattle.descriptor.proofs.Agree.{SameNames}
+use Rattle.archive.proofs.Agree.{Maybe, SameOpening, opened-again}
 use Rattle.transform.specs.Transform.{transform}
 use Rattle.transform.proofs.Agree.{transform-reads}
 use Rattle.half.specs.Inner.{isWidth}

@@ -9,8 +9,8 @@ use lib.ListN.{length, getD}
 use Rattle.fields.proofs.Laws.{Always, then-always, check-always, got-always}
 use Rattle.archive.specs.Answer.{gives}
 use Rattle.archive.specs.declared.Asked.{Asked}
-use Rattle.archive.specs.declared.ArchiveHeader.{ArchiveHeader}
-use Rattle.archive.specs.declared.GridDescriptor.{GridDescriptor}
+use Rattle.header.specs.declared.ArchiveHeader.{ArchiveHeader}
+use Rattle.descriptor.specs.declared.GridDescriptor.{GridDescriptor}
 use Rattle.archive.proofs.Laws.{with-back, answer-back}
 use Rattle.coordinates.specs.declared.GlobalCoord.{GlobalCoord}
 use Rattle.tree.specs.Active.{Record, coveredBy}

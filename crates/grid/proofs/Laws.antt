@@ -13,10 +13,11 @@ use Rattle.fields.specs.Fields.{bytesOf}
 use Rattle.fields.proofs.Laws.{check-passes, through, made-at, made-then, Always, then-always, check-always}
 use Rattle.nodes.specs.declared.Block.{Block}
 use Rattle.archive.specs.Answer.{Answer, gives, refuses, answer, with, present}
-use Rattle.archive.specs.Archive.{header, File, file, AskedFile, askedOf, fileAsked}
+use Rattle.header.specs.Header.{header}
+use Rattle.archive.specs.Archive.{File, file, AskedFile, askedOf, fileAsked}
 use Rattle.archive.specs.declared.Asked.{Asked}
-use Rattle.archive.specs.declared.ArchiveHeader.{ArchiveHeader}
-use Rattle.archive.specs.declared.GridDescriptor.{GridDescriptor}
+use Rattle.header.specs.declared.ArchiveHeader.{ArchiveHeader}
+use Rattle.descriptor.specs.declared.GridDescriptor.{GridDescriptor}
 use Rattle.archive.proofs.Laws.{with-gives, with-refuses}
 use Rattle.values.specs.declared.Coding.{Coding}
 use Rattle.tree.specs.Topology.{Tree}

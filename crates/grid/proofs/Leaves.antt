@@ -26,14 +26,14 @@ use Rattle.tree.specs.Blocks.{Filled4, Filled5, filled4, filled5, blocksField}
 use Rattle.tree.specs.Active.{joined, allBlocks}
 use Rattle.tree.proofs.Lists.{each-joined}
 use Rattle.archive.specs.Answer.{Answer, gives, refuses, with}
-use Rattle.archive.specs.declared.ArchiveHeader.{ArchiveHeader}
-use Rattle.archive.specs.declared.GridDescriptor.{GridDescriptor}
+use Rattle.header.specs.declared.ArchiveHeader.{ArchiveHeader}
+use Rattle.descriptor.specs.declared.GridDescriptor.{GridDescriptor}
 use Rattle.archive.specs.declared.Asked.{Asked}
 use Rattle.archive.proofs.Laws.{with-gives, with-refuses, with-back, answer-back}
 use Rattle.grid.specs.Grid.{Grid, widthOf, codingOf, contentField, gridField, grid, leafNumbered, presentLeaf, fillLeaf}
 use Rattle.grid.specs.Inner.{Looked, looked, look}
-use Rattle.archive.specs.declared.HalfEntry.{HalfEntry}
-use Rattle.archive.specs.declared.HalfEntry.the-variants as Half
+use Rattle.descriptor.specs.declared.HalfEntry.{HalfEntry}
+use Rattle.descriptor.specs.declared.HalfEntry.the-variants as Half
 
 all-at : {A : Type 0} (P : A → Type 0) (l : List A) (k : ℕ) (a : A) → Each P l → getElem? l k ≡ some a → P a
 all-at P [] k a x e = let z : _≡_ {A = ℕ} 0 1 = cc in absurd (omega arith)

@@ -9,10 +9,10 @@ use Rattle.fields.specs.Parse.{Parse, got, then, when, check}
 use Rattle.fields.specs.Fields.{bytesOf, sameBytes, ascii}
 use Rattle.archive.specs.Answer.{Answer, gives, refuses, answer, with, present}
 use Rattle.archive.specs.Archive.{fileAsked}
-use Rattle.archive.specs.declared.ArchiveHeader.{ArchiveHeader}
-use Rattle.archive.specs.declared.GridDescriptor.{GridDescriptor}
-use Rattle.archive.specs.declared.HalfEntry.{HalfEntry}
-use Rattle.archive.specs.declared.HalfEntry.the-variants as Half
+use Rattle.header.specs.declared.ArchiveHeader.{ArchiveHeader}
+use Rattle.descriptor.specs.declared.GridDescriptor.{GridDescriptor}
+use Rattle.descriptor.specs.declared.HalfEntry.{HalfEntry}
+use Rattle.descriptor.specs.declared.HalfEntry.the-variants as Half
 use Rattle.archive.specs.declared.Asked.{Asked}
 use Rattle.archive.specs.declared.Asked.the-variants as A
 use Rattle.transform.specs.Transform.{transform}

@@ -1,8 +1,10 @@
 use borrow.Author.Needs.{needs}
 use Rattle.fields.proofs.Laws.{told}
 use Rattle.fields.proofs.Steps.{then-by, steps}
-use Rattle.archive.proofs.Laws.{few-grids, in-parts, answer-got, answer-fails}
-use Rattle.archive.specs.Inner.{saysHeader, saysGrids}
+use Rattle.header.proofs.Laws.{few-grids}
+use Rattle.archive.proofs.Laws.{in-parts, answer-got, answer-fails}
+use Rattle.header.specs.Inner.{saysHeader}
+use Rattle.archive.specs.Inner.{saysGrids}
 use Rattle.archive.proofs.read_file.Statement.{statement}
 use Rattle.archive.proofs.read_file.Tie as tie
 

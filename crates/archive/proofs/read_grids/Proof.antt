@@ -6,7 +6,8 @@ use mathlib.Core.Option.{none}
 use lib.ListN.{length, take}
 use Rattle.fields.proofs.Steps.{by, via}
 use Rattle.archive.proofs.Laws.{grids-more, grids-fails, grids-none, grids-all}
-use Rattle.archive.specs.Inner.{gridsField, saysDescriptor, saysFoundGrid}
+use Rattle.descriptor.specs.Inner.{saysDescriptor}
+use Rattle.archive.specs.Inner.{gridsField, saysFoundGrid}
 use Rattle.archive.proofs.read_grids.Statement.{statement}
 use Rattle.archive.proofs.read_grids.Tie as tie
 

@@ -1,7 +1,7 @@
 use borrow.Author.Needs.{needs}
 use Rattle.fields.proofs.Steps.{then-by, steps}
 use Rattle.archive.proofs.Laws.{check-repeated, check-new}
-use Rattle.archive.specs.Inner.{saysDescriptor}
+use Rattle.descriptor.specs.Inner.{saysDescriptor}
 use Rattle.archive.proofs.read_next.Statement.{statement}
 use Rattle.archive.proofs.read_next.Tie as tie
 

@@ -2,8 +2,8 @@ use borrow.Author.Needs.{needs}
 use mathlib.Core.Bool.{Bool}
 use mathlib.Core.Path.{_≡_, refl}
 use Prim.Native.Nat.{ℕ}
-use Rattle.archive.specs.declared.HalfEntry.{HalfEntry}
-use Rattle.archive.specs.declared.HalfEntry.the-variants.{Says}
+use Rattle.descriptor.specs.declared.HalfEntry.{HalfEntry}
+use Rattle.descriptor.specs.declared.HalfEntry.the-variants.{Says}
 use Rattle.half.specs.Inner.{isWidth}
 use Rattle.grid.specs.Grid.{widthOf}
 use Rattle.grid.proofs.Leaves.{width-is}

@@ -1,0 +1,2 @@
+pub mod Descriptor
+pub mod Inner
