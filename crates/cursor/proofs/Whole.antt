@@ -17,7 +17,8 @@ use Rattle.values.specs.declared.Coding.{Coding}
 use Rattle.nodes.specs.Nodes.{originOf, nodeField, blockField}
 use Rattle.nodes.specs.declared.NodeHeader.{NodeHeader}
 use Rattle.nodes.proofs.Laws.{node-back}
-use Rattle.tree.specs.Topology.{Tree, leafField, node4Field, childField, node5Field, originField, rootField, rootsField, treeHeadField, topology}
+use Rattle.roots.specs.Roots.{originField, treeHeadField}
+use Rattle.tree.specs.Topology.{Tree, leafField, node4Field, childField, node5Field, rootField, rootsField, topology}
 use Rattle.tree.specs.Blocks.{Filled5, filled4, filled5, blocksField}
 use Rattle.tree.specs.Active.{Piece, joined, leafPiece, pieces4, pieces5, pieces, recordsOf, activeList}
 use Rattle.tree.proofs.Lists.{joined-map}

@@ -7,8 +7,7 @@ use native.Mathlib.Omega.{arith}
 use lib.Dec.{lit≤}
 use lib.ListN.{length, getElem?}
 use Rattle.fields.specs.Parse.{when, many}
-use Rattle.fields.proofs.Agree.{Reads, reads, then-reads, got-reads, bytes-reads, u32-reads, Each, each-append, Tells}
-use Rattle.fields.proofs.Agree.{plain-tells, got-tells, then-tells, then-plain, swap-tells, each-tells, many-tells, part-tells, keep, SameFor}
+use Rattle.fields.proofs.Agree.{Each, each-append, Tells, got-tells, then-tells, then-plain, swap-tells, each-tells, many-tells, part-tells, keep, SameFor}
 use Rattle.coordinates.specs.declared.GlobalCoord.{GlobalCoord}
 use Rattle.coordinates.specs.Coordinates.{index, places, globalOf, placeOf, rootOrigin}
 use Rattle.coordinates.proofs.Laws.{place-below}
@@ -21,10 +20,11 @@ use Rattle.half.specs.Inner.{isWidth}
 use Rattle.nodes.specs.Nodes.{sameCoord}
 use Rattle.nodes.specs.declared.Leaf.{Leaf}
 use Rattle.nodes.proofs.Agree.{SameNode, SameLeaf, SameBlock, node-tells, block-tells}
+use Rattle.roots.proofs.Agree.{origin-reads, head-reads}
 use Rattle.tree.specs.Active.{Record, sideOf, edgeOf, joined, Piece, leafPiece, piece4, piece5, pieces4, pieces5, pieces}
 use Rattle.tree.specs.Active.{recordAt, recordsOf, activeList, allBlocks, Spot, placeIn, spotAt, below, spot4, spot5, spot}
 use Rattle.tree.specs.Topology.{Node4, Node5, Tree, leafField, node4Field, childField, node5Field}
-use Rattle.tree.specs.Topology.{originField, rootField, rootsField, buffersField, rootCountField, tilesField, treeHeadField, topology}
+use Rattle.tree.specs.Topology.{rootField, rootsField, topology}
 use Rattle.tree.specs.Blocks.{Filled4, Filled5, filled4, filled5, blocksField}
 use Rattle.tree.proofs.Lists.{each-map, each-joined, map-same, joined-same}
 use Rattle.tree.proofs.Cover.{side-positive, edge-positive}
@@ -57,10 +57,6 @@ node5-tells {s} {t} c origin =
     then-tells (swap-tells (λ l k. ap (λ (ones : List ℕ). many (childField t c origin) ones p) (ones-same 4096 (x l k .child-mask))) (many-tells _ (λ i at. node4-tells c _))) λ nodes q f y.
     got-tells (Same5 s t c) λ l k. (keep f x l k, y l k)
 
-origin-reads : {s t : List ℕ} {lo at : ℕ} (earlier : List GlobalCoord) → Reads s t lo at (originField s earlier at) (originField t earlier at)
-unfolding originField
-origin-reads earlier = search reads
-
 root-tells : {s t : List ℕ} {lo at : ℕ} (earlier : List GlobalCoord) (c : Coding) → Tells s t lo at (Same5 s t c) (rootField s c earlier at) (rootField t c earlier at)
 unfolding rootField
 root-tells earlier c = then-plain (origin-reads earlier) λ o p e. node5-tells c o
@@ -71,24 +67,6 @@ unfolding rootsField
 roots-tells {s} {t} zero earlier c = got-tells (Each (Same5 s t c)) λ l h. tt
 roots-tells {s} {t} (suc k) earlier c =
     then-tells (root-tells earlier c) λ n p e x. then-tells (roots-tells k _ c) λ ns q f y. got-tells (Each (Same5 s t c)) λ l h. (keep f x l h, y l h)
-
-buffers-reads : {s t : List ℕ} {lo at : ℕ} → Reads s t lo at (buffersField s at) (buffersField t at)
-unfolding buffersField
-buffers-reads = search reads
-
-root-count-reads : {s t : List ℕ} {lo at : ℕ} (limit : ℕ) → Reads s t lo at (rootCountField s limit at) (rootCountField t limit at)
-unfolding rootCountField
-root-count-reads limit = search reads
-
-tiles-reads : {s t : List ℕ} {lo at : ℕ} (n : ℕ) → Reads s t lo at (tilesField s n at) (tilesField t n at)
-unfolding tilesField
-tiles-reads n = then-reads (many-tells _ (λ i at. plain-tells (bytes-reads 17)) .reads) λ tiles p e. got-reads
-
-head-reads : {s t : List ℕ} {lo at : ℕ} (limit : ℕ) → Reads s t lo at (treeHeadField s limit at) (treeHeadField t limit at)
-unfolding treeHeadField
-head-reads limit =
-    then-reads buffers-reads λ one p e. then-reads u32-reads λ background q e. then-reads u32-reads λ tiles r e. then-reads (root-count-reads limit) λ roots u e.
-    then-reads (tiles-reads tiles) λ passed n e. got-reads
 
 pub topology-tells : {s t : List ℕ} {lo at : ℕ} (c : Coding) (limit : ℕ) → Tells s t lo at (SameTree s t c) (topology s c limit at) (topology t c limit at)
 unfolding topology

@@ -1,7 +1,7 @@
 -- The active list against the descent: the records that cover a voxel are the one that the descent names, or none.
 use mathlib.Core.Path.{_≡_, refl, sym, ap, _∙_}
 use mathlib.Core.List.{List, [], _∷_, _++_, map, append-nil, List·Memᴰ, List·Memᴰ·head, List·Memᴰ·tail}
-use mathlib.Core.Bool.{Bool, true, false, _||_, or-false, or-assoc, true≢false, false≢true}
+use mathlib.Core.Bool.{Bool, true, false, _||_, true≢false, false≢true}
 use Prim.Native.Nat.{ℕ, zero, suc, _+_, _-_, _*_, _<_, _≤_}
 use native.Mathlib.Nat.{sub-zero}
 use native.Mathlib.Omega.{arith}
@@ -20,7 +20,9 @@ use Rattle.masks.proofs.Laws.{ones-mem, ones-split, one-nth, overlap-apart}
 use Rattle.values.specs.declared.Coding.{Coding}
 use Rattle.nodes.specs.Nodes.{sameInt, sameCoord}
 use Rattle.nodes.specs.declared.Block.{Block}
-use Rattle.tree.specs.Topology.{Node5, isAmong}
+use Rattle.roots.specs.Roots.{isAmong}
+use Rattle.roots.proofs.Laws.{among-more}
+use Rattle.tree.specs.Topology.{Node5}
 use Rattle.tree.specs.Blocks.{Filled4, Filled5}
 use Rattle.tree.specs.Active.{Record, joined, placeIn, Piece, Spot, sideOf, edgeOf, coveredBy, inactive, leafPiece, piece4}
 use Rattle.tree.specs.Active.{piece5, pieces4, pieces5, recordAt, recordsOf, spotAt, below, spot3, spot4, spot5, spot}
@@ -215,12 +217,6 @@ same-coord a b e =
 coord-same : (a : GlobalCoord) → sameCoord a a ≡ true
 unfolding sameCoord
 coord-same a = rw (int-same (a .0), int-same (a .1), int-same (a .2))
-
--- whether a coordinate is among others and one more
-among-more : (o e : GlobalCoord) (l : List GlobalCoord) → isAmong o (l ++ e ∷ []) ≡ (isAmong o l || sameCoord e o)
-unfolding isAmong
-among-more o e [] = or-false (sameCoord e o)
-among-more o e (x ∷ l) = rw (among-more o e l) (sym (or-assoc (sameCoord x o) (isAmong o l) (sameCoord e o)))
 
 module _ (s : List ℕ) (c : Coding) (v : GlobalCoord) where
   -- a root's cube has the voxel exactly when its origin is that of the voxel's root

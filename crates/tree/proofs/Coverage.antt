@@ -9,7 +9,8 @@ use lib.ListN.{length, getD}
 use Rattle.fields.specs.Parse.{got, when}
 use Rattle.coordinates.specs.declared.GlobalCoord.{GlobalCoord}
 use Rattle.values.specs.declared.Coding.{Coding}
-use Rattle.tree.specs.Topology.{Tree, isAmong, topology}
+use Rattle.roots.specs.Roots.{isAmong}
+use Rattle.tree.specs.Topology.{Tree, topology}
 use Rattle.tree.specs.Blocks.{Filled5, blocksField}
 use Rattle.tree.specs.Active.{Record, Spot, coveredBy, pieces, recordsOf, activeList, spot}
 use Rattle.tree.specs.Inner.{covering, named}

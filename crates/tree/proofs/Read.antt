@@ -4,18 +4,18 @@ use mathlib.Core.List.{List, [], _∷_, _++_}
 use mathlib.Core.Bool.{true, false}
 use Prim.Native.Nat.{ℕ, zero, suc}
 use lib.Dec.{lit≤}
-use borrow.Author.Tests.{not-true}
-use Rattle.fields.proofs.Laws.{Always, then-always, check-always, got-always, then-back}
+use Rattle.fields.proofs.Laws.{Always, then-always, got-always, then-back}
 use Rattle.coordinates.specs.Coordinates.{index, globalOf, aligned}
 use Rattle.coordinates.specs.declared.GlobalCoord.{GlobalCoord}
-use Rattle.coordinates.proofs.Axis.{and-both}
 use Rattle.masks.specs.Masks.{maskBit, ones, overlap, agree}
 use Rattle.values.specs.declared.Coding.{Coding}
 use Rattle.nodes.specs.Nodes.{blockField}
 use Rattle.nodes.specs.declared.Leaf.{Leaf}
 use Rattle.nodes.specs.declared.Block.{Block}
 use Rattle.nodes.proofs.Laws.{node-back, block-back}
-use Rattle.tree.specs.Topology.{Node4, Node5, leafField, node4Field, childField, node5Field, isAmong, originField, rootField, rootsField, topology}
+use Rattle.roots.specs.Roots.{isAmong, originField}
+use Rattle.roots.proofs.Laws.{origin-new}
+use Rattle.tree.specs.Topology.{Node4, Node5, leafField, node4Field, childField, node5Field, rootField, rootsField, topology}
 use Rattle.tree.specs.Blocks.{Filled4, Filled5, filled4, filled5, blocksField}
 use Rattle.tree.proofs.Lists.{Paired, many-each}
 
@@ -50,12 +50,6 @@ node5-read s c o at = then-always _ _ _ λ h p e. then-always _ _ _ λ ms q f. g
 abbrev pub Roots : List ℕ → List Node5 → List GlobalCoord → Type 0
 Roots s [] earlier = Unit {0}
 Roots s (n ∷ ns) earlier = (aligned 4096 (n .origin) ≡ true) × (isAmong (n .origin) earlier ≡ false) × Read5 s (n .origin) n × Roots s ns (earlier ++ n .origin ∷ [])
-
-origin-new : (earlier : List GlobalCoord) (s : List ℕ) (at : ℕ) → Always (λ o p. (aligned 4096 o ≡ true) × (isAmong o earlier ≡ false)) (originField s earlier at)
-unfolding originField
-origin-new earlier s at = then-always _ _ _ λ v p e. check-always _ _ _ _ λ ok. got-always _ _ _
-    (let b = and-both _ _ ok in
-    (b .0, not-true _ (b .1)))
 
 roots-read : (k : ℕ) (earlier : List GlobalCoord) (s : List ℕ) (c : Coding) (at : ℕ) → Always (λ ns q. Roots s ns earlier) (rootsField s c k earlier at)
 unfolding rootsField rootField

@@ -15,17 +15,9 @@ use Rattle.nodes.specs.Nodes.{nodeField, blockField}
 use Rattle.nodes.specs.declared.Leaf.{Leaf}
 use Rattle.nodes.specs.declared.Block.{Block}
 use Rattle.coordinates.specs.declared.GlobalCoord.{GlobalCoord}
+use Rattle.roots.specs.declared.TreeHead.{TreeHead}
 use Rattle.tree.specs.Active.{Record, Spot, coveredBy}
 use Rattle.tree.specs.Topology.{Node4, Node5, Tree, leafField, rootsField, topology}
-use Rattle.tree.specs.declared.TreeHead.{TreeHead}
-use Rattle.tree.specs.declared.CountField.{CountField}
-use Rattle.tree.specs.declared.CountField.the-variants.{Got as GotCount, Refused as RefusedCount}
-use Rattle.tree.specs.declared.TilesField.{TilesField}
-use Rattle.tree.specs.declared.TilesField.the-variants.{Got as GotTiles, Past as PastTiles}
-use Rattle.tree.specs.declared.TreeHeadField.{TreeHeadField}
-use Rattle.tree.specs.declared.TreeHeadField.the-variants.{Got as GotHead, Refused as RefusedHead}
-use Rattle.tree.specs.declared.OriginField.{OriginField}
-use Rattle.tree.specs.declared.OriginField.the-variants.{Got as GotOrigin, Refused as RefusedOrigin}
 use Rattle.tree.specs.declared.BlocksAt.{BlocksAt}
 use Rattle.tree.specs.declared.BlocksAt.the-variants.{At as BlocksGoOn, Refused as BlocksRefused}
 use Rattle.tree.specs.declared.FoundLeaf.{FoundLeaf}
@@ -120,22 +112,6 @@ traversal s c limit wanted block at =
     got (traversedOf s c wanted block t) n
 
 -- What each answer of the code says.
-abbrev pub saysCount : CountField → Parse ℕ
-saysCount (GotCount v n) = got v n
-saysCount (RefusedCount k) = fails k
-
-abbrev pub saysTiles : TilesField → Parse Unit
-saysTiles (GotTiles n) = got tt n
-saysTiles PastTiles = fails 2
-
-abbrev pub saysTreeHead : TreeHeadField → Parse TreeHead
-saysTreeHead (GotHead h) = got h (h .«roots_pos»)
-saysTreeHead (RefusedHead k) = fails k
-
-abbrev pub saysOrigin : OriginField → Parse GlobalCoord
-saysOrigin (GotOrigin o n) = got o n
-saysOrigin (RefusedOrigin k) = fails k
-
 abbrev pub saysLeaf : FoundLeaf → Option Block
 saysLeaf (LeafAt b) = some b
 saysLeaf NoLeaf = none

@@ -1,6 +1,6 @@
 use borrow.Author.Needs.{needs}
-use Rattle.tree.proofs.Passing.{node5-passed, origin-aligned, roots-none, origin-fails, node-fails, roots-more}
-use Rattle.tree.specs.Inner.{passingRoots, totalsOf, saysOrigin, saysPass, Few, fewField}
+use Rattle.tree.proofs.Passing.{node5-passed, roots-none, origin-fails, node-fails, roots-more}
+use Rattle.tree.specs.Inner.{passingRoots, totalsOf, saysPass, Few, fewField}
 use Rattle.fields.proofs.Laws.{told}
 use lib.Seq.{take-suc-set}
 use lib.ListN.{length, take, length-set}
@@ -8,7 +8,9 @@ use Prim.Native.Nat.{_≤_, _-_, _+_}
 use mathlib.Core.List.{List, []}
 use Rattle.fields.specs.Parse.{got}
 use Rattle.coordinates.specs.declared.GlobalCoord.{GlobalCoord}
-use Rattle.tree.specs.Topology.{originField}
+use Rattle.roots.specs.Roots.{originField}
+use Rattle.roots.specs.Inner.{saysOrigin}
+use Rattle.roots.proofs.Laws.{origin-aligned}
 use mathlib.Core.Path.{_≡_, refl, sym, ap, _∙_, subst}
 use native.Mathlib.Numerals.{add-one}
 use native.Mathlib.Omega.{arith}

@@ -3,8 +3,10 @@ use native.Mathlib.Omega.{arith}
 use mathlib.Core.Path.{ap, _∙_, subst}
 use Rattle.fields.specs.Parse.{then}
 use Rattle.fields.proofs.Laws.{then-got, then-fails, told}
-use Rattle.tree.specs.Inner.{saysTreeHead, saysPass, fewField}
-use Rattle.tree.proofs.Passing.{head-inside, head-fails, roots-passed}
+use Rattle.roots.specs.Inner.{saysTreeHead}
+use Rattle.roots.proofs.Laws.{head-inside}
+use Rattle.tree.specs.Inner.{saysPass, fewField}
+use Rattle.tree.proofs.Passing.{head-fails, roots-passed}
 use Rattle.tree.proofs.read_tree_topology.Statement.{statement}
 use Rattle.tree.proofs.read_tree_topology.Tie as tie
 

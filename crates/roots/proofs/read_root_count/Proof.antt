@@ -1,9 +1,9 @@
 use borrow.Author.Needs.{needs}
 use Rattle.fields.specs.Inner.{saysU32}
 use Rattle.fields.proofs.Steps.{steps, then-by}
-use Rattle.tree.specs.Topology.{rootCountField}
-use Rattle.tree.proofs.read_root_count.Statement.{statement}
-use Rattle.tree.proofs.read_root_count.Tie as tie
+use Rattle.roots.specs.Roots.{rootCountField}
+use Rattle.roots.proofs.read_root_count.Statement.{statement}
+use Rattle.roots.proofs.read_root_count.Tie as tie
 
 pub read-root-count-spec : {M : Type 1} → statement M
 unfolding rootCountField

@@ -3,10 +3,10 @@ use mathlib.Core.Path.{refl}
 use Rattle.fields.specs.Inner.{saysU32}
 use Rattle.fields.proofs.Laws.{then-got, then-fails, told}
 use Rattle.fields.proofs.Steps.{steps, then-by}
-use Rattle.tree.specs.Topology.{treeHeadField}
-use Rattle.tree.specs.Inner.{saysCount, saysTiles}
-use Rattle.tree.proofs.read_tree_head.Statement.{statement}
-use Rattle.tree.proofs.read_tree_head.Tie as tie
+use Rattle.roots.specs.Roots.{treeHeadField}
+use Rattle.roots.specs.Inner.{saysCount, saysTiles}
+use Rattle.roots.proofs.read_tree_head.Statement.{statement}
+use Rattle.roots.proofs.read_tree_head.Tie as tie
 
 -- The last three ways out: each place is named by what was got there.
 returns-4 : tie.Need-returns-4

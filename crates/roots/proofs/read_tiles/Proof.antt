@@ -1,9 +1,9 @@
 use borrow.Author.Needs.{needs}
 use Rattle.fields.specs.Inner.{saysSpan}
 use Rattle.fields.proofs.Steps.{steps, then-by, via}
-use Rattle.tree.proofs.Passing.{no-tiles, tiles-passed}
-use Rattle.tree.proofs.read_tiles.Statement.{statement}
-use Rattle.tree.proofs.read_tiles.Tie as tie
+use Rattle.roots.proofs.Laws.{no-tiles, tiles-passed}
+use Rattle.roots.proofs.read_tiles.Statement.{statement}
+use Rattle.roots.proofs.read_tiles.Tie as tie
 
 pub read-tiles-spec : {M : Type 1} → statement M
 read-tiles-spec =

@@ -1,12 +1,10 @@
 use borrow.Author.Needs.{needs}
-use mathlib.Core.Path.{ap}
-use Rattle.fields.specs.Parse.{got}
 use Rattle.fields.specs.Inner.{saysIVec3}
 use Rattle.fields.proofs.Steps.{steps, then-by}
-use Rattle.tree.specs.Topology.{originField}
-use Rattle.tree.proofs.Passing.{new-origin, old-origin}
-use Rattle.tree.proofs.read_origin.Statement.{statement}
-use Rattle.tree.proofs.read_origin.Tie as tie
+use Rattle.roots.specs.Roots.{originField}
+use Rattle.roots.proofs.Laws.{new-origin, old-origin}
+use Rattle.roots.proofs.read_origin.Statement.{statement}
+use Rattle.roots.proofs.read_origin.Tie as tie
 
 pub read-origin-spec : {M : Type 1} → statement M
 unfolding originField

@@ -1,8 +1,8 @@
 use borrow.Author.Needs.{needs}
 use mathlib.Core.Bool.{Bool, true, false, not, _&&_}
 use mathlib.Core.Path.{_≡_, refl, ap}
-use Rattle.tree.proofs.is_new_origin.Statement.{statement}
-use Rattle.tree.proofs.is_new_origin.Tie as tie
+use Rattle.roots.proofs.is_new_origin.Statement.{statement}
+use Rattle.roots.proofs.is_new_origin.Tie as tie
 
 first : {x : Bool} (a b : Bool) → x ≡ a → not x ≡ true → false ≡ (a && b)
 first true b e f = cc

@@ -1,9 +1,9 @@
 use borrow.Author.Needs.{needs}
 use Rattle.fields.specs.Inner.{saysU32}
 use Rattle.fields.proofs.Steps.{steps, then-by}
-use Rattle.tree.specs.Topology.{buffersField}
-use Rattle.tree.proofs.read_buffer_count.Statement.{statement}
-use Rattle.tree.proofs.read_buffer_count.Tie as tie
+use Rattle.roots.specs.Roots.{buffersField}
+use Rattle.roots.proofs.read_buffer_count.Statement.{statement}
+use Rattle.roots.proofs.read_buffer_count.Tie as tie
 
 pub read-buffer-count-spec : {M : Type 1} → statement M
 unfolding buffersField

@@ -1,14 +1,14 @@
 use borrow.Author.Needs.{needs}
-use Rattle.tree.proofs.Passing.{among-here, among-later, among-none}
-use Rattle.tree.specs.Topology.{isAmong}
+use Rattle.roots.proofs.Laws.{among-here, among-later, among-none}
+use Rattle.roots.specs.Roots.{isAmong}
 use Rattle.fields.proofs.Laws.{is-true, is-false}
 use lib.Seq.{slice}
 use lib.ListN.{take}
 use Prim.Native.Nat.{_≤_, _-_}
-use mathlib.Core.Path.{_≡_, refl, sym, ap, _∙_}
+use mathlib.Core.Path.{_≡_, refl, _∙_}
 use native.Mathlib.Omega.{arith}
-use Rattle.tree.proofs.is_among.Statement.{statement}
-use Rattle.tree.proofs.is_among.Tie as tie
+use Rattle.roots.proofs.is_among.Statement.{statement}
+use Rattle.roots.proofs.is_among.Tie as tie
 
 abbrev Inv-loop : tie.InvT-loop
 Inv-loop n o origins k₀ k = (k ≤ n) × (isAmong o (slice k n origins) ≡ isAmong o (take n origins))
