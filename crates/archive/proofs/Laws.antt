@@ -2,21 +2,19 @@
 use mathlib.Core.Path.{_≡_, refl, ap, _∙_}
 use mathlib.Core.List.{List, [], _∷_, _++_}
 use mathlib.Core.Option.{Option, none, some}
-use mathlib.Core.Bool.{Bool, true, false, _&&_, not}
+use mathlib.Core.Bool.{Bool, true, false, not}
 use Prim.Native.Nat.{ℕ, suc, _+_, _-_, _≤_, _<_}
 use native.Mathlib.Omega.{arith}
 use native.Mathlib.Numerals.{add-one}
-use lib.Dec.{leb}
 use lib.ListN.{length, getD, take, set, length-take, drop-of-length-le}
 use lib.Seq.{slice, drop-cons, getD-take, take-suc-set}
-use borrow.Author.Tests.{le-leb, lt-leb, leb-true}
 use Rattle.fields.specs.Parse.{Parse, got, fails, then, when, check}
 use Rattle.fields.specs.Fields.{bytesOf, sameBytes}
 use Rattle.fields.specs.declared.Span.{Span}
-use Rattle.fields.proofs.Laws.{then-got, then-fails, check-passes, check-fails, then-then, told, Always, got-always, then-always, check-always}
+use Rattle.fields.proofs.Laws.{then-got, then-fails, check-passes, check-fails, then-then, told}
 use Rattle.metadata.specs.Metadata.{latest}
 use Rattle.archive.specs.Answer.{Answer, gives, refuses, answer, with, present}
-use Rattle.header.specs.Header.{countField, header}
+use Rattle.header.specs.Header.{header}
 use Rattle.archive.specs.Archive.{repeated, descriptors, File, file, openFile, isAsked, AskedFile, askedOf, fileAsked}
 use Rattle.archive.specs.Inner.{nextField, gridsField}
 use Rattle.header.specs.declared.ArchiveHeader.{ArchiveHeader}

@@ -1,6 +1,6 @@
 -- What any cursor hands out, step by step: the end, or a refusal, or one piece that can be read from and then what the cursor behind it hands out.
 use mathlib.Core.Path.{_≡_, refl, sym, ap, _∙_, subst}
-use mathlib.Core.List.{List, [], _∷_}
+use mathlib.Core.List.{List, []}
 use mathlib.Core.Bool.{Bool, true, false}
 use mathlib.Core.Option.{Option, none, some}
 use Prim.Native.Nat.{ℕ, zero, suc, _%_, _≤_, _<_}
@@ -21,7 +21,7 @@ use Rattle.nodes.specs.Nodes.{nodeField, blockField}
 use Rattle.nodes.specs.declared.Leaf.{Leaf}
 use Rattle.nodes.proofs.Laws.{block-back, whole-mask}
 use Rattle.tree.specs.Topology.{leafField}
-use Rattle.tree.specs.Active.{Piece, leafPiece}
+use Rattle.tree.specs.Active.{Piece}
 use Rattle.cursor.specs.Inner.{Rest, Stop, only, refusedBy, stop, after, Onward, HeldPiece, beyond, nextChild}
 use Rattle.cursor.specs.Inner.{childrenOf, leaving, leafRest, rest4, node4Rest, rest5, rootsRest, from5, from4, toCome}
 use Rattle.cursor.specs.declared.Entered.{Entered}

@@ -2,13 +2,13 @@
 use mathlib.Core.Path.{_≡_, refl, sym, ap, ap₂, _∙_}
 use mathlib.Core.List.{List, [], _∷_}
 use mathlib.Core.Bool.{Bool, true, false, not, _&&_}
-use Prim.Native.Nat.{ℕ, zero, suc, _+_, _-_, _≤_, _<_, _^_, _%_, _*_}
+use Prim.Native.Nat.{ℕ, _+_, _-_, _≤_, _<_, _^_, _%_}
 use native.Mathlib.Omega.{arith}
 use native.Mathlib.Nat.{le-of-lt}
 use lib.ListN.{length, take, drop, getD, length-drop, drop-of-length-le}
-use lib.Dec.{T, leb, eqb, eqb→eq}
+use lib.Dec.{T, leb, eqb}
 use lib.IntN.{ℤ}
-use lib.Ieee.{Float, nan, inf, fin, Format, ofBits, isNan, nanBits, binary64}
+use lib.Ieee.{Float, nan, inf, fin, ofBits, isNan, nanBits, binary64}
 use lib.Ieee.Bits.{nanBits-is, nanBits-above}
 use mir.Syntax.{Width, w32, w64}
 use mir.Val.{toZ, ofZ, hbits}
@@ -19,8 +19,7 @@ use native.Mathlib.Numerals.{add-one}
 use borrow.Author.Tests.{le-leb, lt-leb, leb-true, leb-false, lt-ltb, le-ltb, eq-eqb, ne-eqb, eqb-true}
 use Rattle.fields.specs.Le.{signed}
 use Rattle.fields.specs.Parse.{Parse, got, fails, then, when, check, field}
-use Rattle.fields.specs.Fields.{u32Field, bytesField, stringField, sameBytes}
-use Rattle.fields.specs.declared.Span.{Span}
+use Rattle.fields.specs.Fields.{sameBytes}
 
 -- The steps of a parse, by which each way out of a function is one chain: a field that is there, one that is not, a check that passes,
 -- one that does not.

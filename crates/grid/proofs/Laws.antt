@@ -21,11 +21,11 @@ use Rattle.descriptor.specs.declared.GridDescriptor.{GridDescriptor}
 use Rattle.archive.proofs.Laws.{with-gives, with-refuses}
 use Rattle.values.specs.declared.Coding.{Coding}
 use Rattle.tree.specs.Topology.{Tree}
-use Rattle.tree.specs.Blocks.{Filled5, blocksField}
+use Rattle.tree.specs.Blocks.{Filled5}
 use Rattle.tree.specs.Active.{allBlocks}
 use Rattle.tree.specs.Inner.{Summary, over, plusBlock, traversedOf}
 use Rattle.tree.proofs.Counting.{blocks-passed, active-length, found-at}
-use Rattle.grid.specs.Grid.{Grid, isFloatTree, isPacked, codingOf, rootLimit, contentField, gridField, grid, openedOf, openGrid, leafNumbered}
+use Rattle.grid.specs.Grid.{Grid, isFloatTree, isPacked, codingOf, contentField, gridField, grid, openedOf, openGrid}
 use Rattle.grid.specs.Inner.{Looked, looked, passedOf, passedField, lookField, look}
 
 -- what the blocks of a filled tree sum up to

@@ -2,13 +2,13 @@
 use mathlib.Core.Path.{_≡_, refl, sym, ap, _∙_}
 use mathlib.Core.List.{List, [], _∷_}
 use mathlib.Core.Bool.{true, false}
-use mathlib.Core.Option.{Option, none, some}
+use mathlib.Core.Option.{none, some}
 use Prim.Native.Nat.{ℕ, zero, suc}
 use native.Mathlib.Omega.{arith}
 use lib.Dec.{eqb, lit≤}
 use lib.ListN.{getElem?}
 use borrow.Author.Tests.{eq-eqb, ne-eqb}
-use Rattle.fields.specs.Parse.{Parse, got, fails, then, when, check, many}
+use Rattle.fields.specs.Parse.{Parse, when, many}
 use Rattle.fields.proofs.Agree.{Each}
 use Rattle.fields.proofs.Laws.{Always, then-always, check-always, got-always, when-true, when-false}
 use Rattle.half.specs.Inner.{isWidth}
@@ -22,7 +22,7 @@ use Rattle.nodes.specs.declared.Leaf.{Leaf}
 use Rattle.nodes.specs.declared.Block.{Block}
 use Rattle.nodes.proofs.Laws.{whole-mask}
 use Rattle.tree.specs.Topology.{Node4, Node5}
-use Rattle.tree.specs.Blocks.{Filled4, Filled5, filled4, filled5, blocksField}
+use Rattle.tree.specs.Blocks.{filled4, filled5, blocksField}
 use Rattle.tree.specs.Active.{joined, allBlocks}
 use Rattle.tree.proofs.Lists.{each-joined}
 use Rattle.archive.specs.Answer.{Answer, gives, refuses, with}

@@ -3,7 +3,7 @@ use Prim.Native.Nat.{ℕ, _+_}
 use mathlib.Core.List.{List}
 use mathlib.Core.Option.{Option}
 use Rattle.fields.specs.Parse.{Parse, got, then}
-use Rattle.archive.specs.Answer.{Answer, gives, refuses, answer, with}
+use Rattle.archive.specs.Answer.{Answer, gives, refuses, with}
 use Rattle.header.specs.declared.ArchiveHeader.{ArchiveHeader}
 use Rattle.descriptor.specs.declared.GridDescriptor.{GridDescriptor}
 use Rattle.archive.specs.declared.Asked.{Asked}

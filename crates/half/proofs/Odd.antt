@@ -1,6 +1,6 @@
 -- lib.Ieee's `odd` writes a number with its zeros at the end taken off: so j zeros more, with the exponent j less, write the same value.
 use mathlib.Core.Path.{_≡_, refl, ap, ap₂, _∙_}
-use Prim.Native.Nat.{ℕ, zero, suc, _+_, _-_, _*_, _/_, _^_, _≤_, _<_}
+use Prim.Native.Nat.{ℕ, zero, suc, _+_, _*_, _/_, _^_, _≤_, _<_}
 use native.Mathlib.Nat.{mul-pos, zero-lt-suc, lt-irrefl, zero-add, mul-one, suc-add, zero-mul, add-comm, mul-div-mul-right}
 use native.Mathlib.Omega.{arith}
 use mathlib.Core.Bool.{Bool, true, false}

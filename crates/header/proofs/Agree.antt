@@ -1,7 +1,7 @@
 -- What the parse of a header reads: two files that are the same there give the same.
 use mathlib.Core.Path.{_≡_, ap}
 use mathlib.Core.List.{List}
-use Prim.Native.Nat.{ℕ, _+_}
+use Prim.Native.Nat.{ℕ}
 use native.Mathlib.Omega.{arith}
 use lib.Dec.{leb}
 use Rattle.fields.specs.Parse.{got}

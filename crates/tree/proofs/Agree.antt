@@ -5,11 +5,11 @@ use mathlib.Core.List.{List, [], _∷_, map}
 use Prim.Native.Nat.{ℕ, zero, suc, _+_, _*_, _≤_, _<_}
 use native.Mathlib.Omega.{arith}
 use lib.Dec.{lit≤}
-use lib.ListN.{length, getElem?}
+use lib.ListN.{length}
 use Rattle.fields.specs.Parse.{when, many}
 use Rattle.fields.proofs.Agree.{Each, each-append, Tells, got-tells, then-tells, then-plain, swap-tells, each-tells, many-tells, part-tells, keep, SameFor}
 use Rattle.coordinates.specs.declared.GlobalCoord.{GlobalCoord}
-use Rattle.coordinates.specs.Coordinates.{index, places, globalOf, placeOf, rootOrigin}
+use Rattle.coordinates.specs.Coordinates.{index, places, globalOf, rootOrigin}
 use Rattle.coordinates.proofs.Laws.{place-below}
 use Rattle.masks.specs.Masks.{maskBit, onesFrom, consIf, countBelow}
 use Rattle.masks.proofs.Laws.{ones-ext}
@@ -18,7 +18,6 @@ use Rattle.values.specs.declared.Coding.{Coding}
 use Rattle.values.proofs.Agree.{SameValues, place-same}
 use Rattle.half.specs.Inner.{isWidth}
 use Rattle.nodes.specs.Nodes.{sameCoord}
-use Rattle.nodes.specs.declared.Leaf.{Leaf}
 use Rattle.nodes.proofs.Agree.{SameNode, SameLeaf, SameBlock, node-tells, block-tells}
 use Rattle.roots.proofs.Agree.{origin-reads, head-reads}
 use Rattle.tree.specs.Active.{Record, sideOf, edgeOf, joined, Piece, leafPiece, piece4, piece5, pieces4, pieces5, pieces}

@@ -25,7 +25,7 @@ use Rattle.nodes.proofs.Laws.{block-back}
 use Rattle.nodes.specs.declared.NodeHeader.{NodeHeader}
 use Rattle.roots.specs.Roots.{originField, treeHeadField}
 use Rattle.roots.specs.declared.TreeHead.{TreeHead}
-use Rattle.tree.specs.Topology.{Node4, Node5, Tree, leafField, node4Field, childField, node5Field}
+use Rattle.tree.specs.Topology.{Node5, Tree, leafField, node4Field, childField, node5Field}
 use Rattle.tree.specs.Topology.{rootField, rootsField, topology}
 use Rattle.tree.specs.Inner.{Totals, Summary, over, plusTiles, plusLeaf, plus4, plus5, blockAfter, passOne}
 use Rattle.tree.specs.Inner.{passing, passingNode, passingFrom, passingRoots, noTotals, traversedOf, traversal, saysBlocks, Few}

@@ -1,7 +1,7 @@
 -- Inner matter: only contracts of inner functions cite it, and nothing here has to be believed.
 -- What one pass over the topology keeps, the blocks being passed beside it: the definitions that the contracts of the passing functions cite.
 -- A block that is refused does not stop the topology, whose checks come first; so the blocks passed so far are a parse of their own.
-use Prim.Native.Nat.{ℕ, suc, _+_, _-_, _*_, _≤_, _<_}
+use Prim.Native.Nat.{ℕ, _+_, _-_, _*_, _≤_, _<_}
 use mathlib.Core.Path.{_≡_}
 use mathlib.Core.List.{List, [], _∷_}
 use mathlib.Core.Bool.{Bool}

@@ -1,12 +1,9 @@
 // Sections 4 and 6 of document 01: one pass over the topology, with the leaves' blocks passed beside it.
 ghost use mathlib.Core.Path.{_≡_};
 ghost use mathlib.Core.Bool.{true};
-ghost use mathlib.Core.Option.{some};
 ghost use Prim.Native.Nat.{_+_, _*_, _≤_, _<_};
 ghost use mathlib.Core.List.{[]};
-ghost use lib.Dec.{eqb};
 ghost use lib.ListN.{length};
-ghost use Rattle.fields.specs.Parse.{when};
 ghost use Rattle.coordinates.specs.Coordinates.{aligned, globalOf};
 ghost use Rattle.half.specs.Inner.{isWidth};
 ghost use Rattle.masks.specs.Masks.{maskBit, ones, countBelow};

@@ -1,7 +1,6 @@
 use borrow.Author.Needs.{needs}
 use lib.Dec.{lit≤}
-use mathlib.Core.Path.{_≡_, refl}
-use native.Mathlib.Omega.{arith}
+use mathlib.Core.Path.{refl}
 use Rattle.fields.specs.Inner.{saysSpan}
 use Rattle.fields.proofs.Laws.{told}
 use Rattle.nodes.specs.Inner.{saysBlock}

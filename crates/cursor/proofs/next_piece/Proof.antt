@@ -1,6 +1,6 @@
 use borrow.Author.Needs.{needs}
 use borrow.Author.Tests.{eq-eqb, ne-eqb}
-use mathlib.Core.Path.{_≡_, sym, refl, _∙_}
+use mathlib.Core.Path.{sym}
 use Rattle.fields.proofs.Laws.{when-true, when-false}
 use Rattle.cursor.specs.Inner.{toCome}
 use Rattle.cursor.proofs.next_piece.Statement.{statement}

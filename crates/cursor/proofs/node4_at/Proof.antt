@@ -1,5 +1,5 @@
 use borrow.Author.Needs.{needs}
-use mathlib.Core.Path.{_≡_, _∙_}
+use mathlib.Core.Path.{_∙_}
 use Rattle.fields.proofs.Laws.{told}
 use Rattle.nodes.specs.Inner.{saysNode}
 use Rattle.cursor.specs.Inner.{node4Rest}

@@ -1,7 +1,6 @@
 use borrow.Author.Needs.{needs}
 use mathlib.Core.Path.{ap}
 use Prim.Native.Nat.{ℕ}
-use Rattle.values.specs.declared.Coding.{Coding}
 use Rattle.grid.proofs.coding_of.Statement.{statement}
 use Rattle.grid.proofs.coding_of.Tie as tie
 

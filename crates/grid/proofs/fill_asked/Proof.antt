@@ -5,9 +5,7 @@ use Rattle.tree.specs.Inner.{saysLeaf}
 use Rattle.archive.specs.Answer.{gives}
 use Rattle.fields.proofs.Laws.{told}
 use denote.Ref.{now}
-use lib.ListN.{length}
-use mathlib.Core.Path.{_≡_, refl, sym, ap, _∙_}
-use native.Mathlib.Omega.{arith}
+use mathlib.Core.Path.{refl, ap, _∙_}
 use Rattle.grid.proofs.fill_asked.Statement.{statement}
 use Rattle.grid.proofs.fill_asked.Tie as tie
 

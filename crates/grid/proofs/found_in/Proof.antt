@@ -1,7 +1,7 @@
 use borrow.Author.Needs.{needs}
-use mathlib.Core.Path.{_≡_, refl}
+use mathlib.Core.Path.{_≡_}
 use Prim.Native.Nat.{ℕ}
-use Rattle.fields.specs.Parse.{Parse, got, then}
+use Rattle.fields.specs.Parse.{Parse, then}
 use Rattle.archive.specs.Answer.{answer}
 use Rattle.tree.specs.Inner.{Summary, saysBlocks}
 use Rattle.tree.specs.declared.BlocksAt.{BlocksAt}

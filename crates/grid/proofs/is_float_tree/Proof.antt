@@ -1,7 +1,6 @@
 use borrow.Author.Needs.{needs}
 use Rattle.grid.specs.Grid.{isFloatTree}
 use Rattle.fields.proofs.Laws.{is-true, is-false}
-use mathlib.Core.Path.{_≡_, sym}
 use Rattle.grid.proofs.is_float_tree.Statement.{statement}
 use Rattle.grid.proofs.is_float_tree.Tie as tie
 

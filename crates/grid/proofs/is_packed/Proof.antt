@@ -1,8 +1,6 @@
-use borrow.Author.Needs.{needs}
 use Rattle.grid.specs.Grid.{isPacked}
 use borrow.Author.Tests.{eq-eqb, ne-eqb}
 use Prim.Native.Nat.{_%_}
-use mathlib.Core.Path.{_≡_, refl, sym}
 use Rattle.grid.proofs.is_packed.Statement.{statement}
 use Rattle.grid.proofs.is_packed.Tie as tie
 

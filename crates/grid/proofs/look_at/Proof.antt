@@ -2,7 +2,7 @@ use borrow.Author.Needs.{needs}
 use Rattle.grid.proofs.Laws.{opened-small, file-refused, grid-absent, grid-found}
 use Rattle.archive.specs.Inner.{saysFile, saysFoundGrid}
 use Rattle.fields.proofs.Laws.{told}
-use mathlib.Core.Path.{_≡_, refl, sym, ap, _∙_}
+use mathlib.Core.Path.{ap, _∙_}
 use Rattle.grid.proofs.look_at.Statement.{statement}
 use Rattle.grid.proofs.look_at.Tie as tie
 

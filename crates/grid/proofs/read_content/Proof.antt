@@ -7,7 +7,7 @@ use Rattle.archive.specs.Answer.{answer}
 use Rattle.archive.proofs.Laws.{answer-fails}
 use Rattle.transform.specs.Inner.{saysMap}
 use Rattle.tree.specs.Inner.{saysTopology, fewTopology}
-use Rattle.grid.specs.Inner.{Looked, passedField}
+use Rattle.grid.specs.Inner.{passedField}
 use Rattle.grid.proofs.read_content.Statement.{statement}
 use Rattle.grid.proofs.read_content.Tie as tie
 

@@ -1,7 +1,6 @@
 use borrow.Author.Needs.{needs}
 use mathlib.Core.Path.{ap}
 use Rattle.coordinates.specs.declared.GlobalCoord.{GlobalCoord}
-use Rattle.nodes.specs.declared.Leaf.{Leaf}
 use Rattle.tree.proofs.leaf_at.Statement.{statement}
 use Rattle.tree.proofs.leaf_at.Tie as tie
 

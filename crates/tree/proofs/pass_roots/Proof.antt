@@ -4,14 +4,14 @@ use Rattle.tree.specs.Inner.{passingRoots, totalsOf, saysPass, Few, fewF
 use Rattle.fields.proofs.Laws.{told}
 use lib.Seq.{take-suc-set}
 use lib.ListN.{length, take, length-set}
-use Prim.Native.Nat.{_≤_, _-_, _+_}
+use Prim.Native.Nat.{_≤_, _-_}
 use mathlib.Core.List.{List, []}
 use Rattle.fields.specs.Parse.{got}
 use Rattle.coordinates.specs.declared.GlobalCoord.{GlobalCoord}
 use Rattle.roots.specs.Roots.{originField}
 use Rattle.roots.specs.Inner.{saysOrigin}
 use Rattle.roots.proofs.Laws.{origin-aligned}
-use mathlib.Core.Path.{_≡_, refl, sym, ap, _∙_, subst}
+use mathlib.Core.Path.{_≡_, refl, _∙_, subst}
 use native.Mathlib.Numerals.{add-one}
 use native.Mathlib.Omega.{arith}
 use Rattle.tree.proofs.pass_roots.Statement.{statement}

@@ -1,8 +1,8 @@
 use borrow.Author.Needs.{needs}
 use native.Mathlib.Omega.{arith}
-use mathlib.Core.Path.{ap, _∙_, subst}
+use mathlib.Core.Path.{subst}
 use Rattle.fields.specs.Parse.{then}
-use Rattle.fields.proofs.Laws.{then-got, then-fails, told}
+use Rattle.fields.proofs.Laws.{told}
 use Rattle.roots.specs.Inner.{saysTreeHead}
 use Rattle.roots.proofs.Laws.{head-inside}
 use Rattle.tree.specs.Inner.{saysPass, fewField}

@@ -1,7 +1,6 @@
 -- A leaf is passed beside blocks that were refused: these stay as they are.
 use borrow.Author.Needs.{needs}
-use mathlib.Core.Path.{_≡_, refl, sym, ap, _∙_}
-use Prim.Native.Nat.{_+_}
+use mathlib.Core.Path.{_≡_, refl, sym}
 use native.Mathlib.Omega.{arith}
 use Rattle.fields.specs.Parse.{got}
 use Rattle.fields.specs.Inner.{saysSpan}
@@ -12,7 +11,7 @@ use Rattle.masks.specs.Inner.{saysNext}
 use Rattle.masks.proofs.Laws.{next-lt, next-from}
 use Rattle.nodes.specs.declared.Leaf.{Leaf}
 use Rattle.tree.specs.Topology.{leafField}
-use Rattle.tree.specs.Inner.{blockAfter, passOne, plusLeaf, saysPassed, totalsOf}
+use Rattle.tree.specs.Inner.{blockAfter, passOne, plusLeaf, saysPassed}
 use Rattle.tree.proofs.Passing.{ones-none, ones-fails, leaf-more, blocks-refused}
 use Rattle.tree.proofs.skip_leaf.Statement.{statement}
 use Rattle.tree.proofs.skip_leaf.Tie as tie
