@@ -1,5 +1,5 @@
 #!/usr/bin/env python3
-"""Writes what crates/questions is asked, and what it must answer: crates/questions/stdin and crates/questions/stdout.
+"""Writes what the programs crates/questions and crates/parts are asked, and what they must answer: the files stdin and stdout of each.
 
     make -C tools/openvdb                  # as its README.md says: the clouds, and what OpenVDB says of them
     python3 tools/questions/make.py
@@ -10,17 +10,19 @@ import archive
 import grid
 import openvdb
 import parts
+import transforms
 from calls import Questions
 
 TOOLS = os.path.dirname(os.path.dirname(os.path.abspath(__file__)))
-CRATE = os.path.join(os.path.dirname(TOOLS), 'crates', 'questions')
+CRATES = os.path.join(os.path.dirname(TOOLS), 'crates')
 
 q = Questions()
 archive.ask(q)
 grid.ask(q)
 openvdb.ask(q, os.path.join(TOOLS, 'openvdb', 'out'))
+transforms.ask(q)
+q.write(os.path.join(CRATES, 'questions'))
+
+q = Questions()
 parts.ask(q)
-with open(os.path.join(CRATE, 'stdin'), 'w') as asked, open(os.path.join(CRATE, 'stdout'), 'w') as answered:
-    for line, answer in q.lines:
-        asked.write(line + '\n')
-        answered.write(line + answer + '\n')
+q.write(os.path.join(CRATES, 'parts'))

@@ -1,9 +1,12 @@
-"""The lines that go into crates/questions, and what must come out: each line again, with its answer behind it."""
+"""The lines that go into a program, and what must come out: each line again, with its answer behind it."""
+import os
 import re
 
 SIZE = 262144
-# From here on the program keeps the names of its questions.
+# From here on a program keeps the names of its questions.
 NAMES = 200000
+# The last position that can be asked for.
+FAR = 2 ** 64 - 1
 TEXT = re.compile(rb'[A-Za-z_][A-Za-z0-9_ .]{2,}')
 
 
@@ -54,6 +57,12 @@ def changes(numbers, start, form):
 class Program:
     def __init__(self):
         self.lines, self.data, self.length, self.kept = [], bytearray(SIZE), 0, None
+
+    def write(self, folder):
+        with open(os.path.join(folder, 'stdin'), 'w') as asked, open(os.path.join(folder, 'stdout'), 'w') as answered:
+            for line, answer in self.lines:
+                asked.write(line + '\n')
+                answered.write(line + answer + '\n')
 
     def say(self, line):
         assert '\n' not in line

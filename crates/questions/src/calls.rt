@@ -8,18 +8,22 @@
 //     fill LEAF SLOTS N, fill LEAF SLOTS: NAME               a leaf's values, and their sum
 //     values LEAF SLOTS N, values LEAF SLOTS: NAME           the same, with the values themselves
 //     cuts FROM TO, trims FROM TO                            the refusals of grid 0, or of the file, cut to each of these lengths
-use crate::line;
-use crate::parts;
+//
+// and to the layer of the transforms, whose map is shown as that of a grid:
+//
+//     Transform AT
 use crate::series;
-use crate::show;
 use archive::DescriptorAnswer;
 use archive::EntryAnswer;
 use archive::HeaderAnswer;
+use asking::line;
+use asking::show;
 use fields::Span;
 use grid::FillAnswer;
 use line::Line;
 use metadata::MetadataValue;
 use transform::Map;
+use transform::MapField;
 use transform::Scale;
 use transform::ScaleTranslate;
 
@@ -120,7 +124,7 @@ fn scale_translate(m: ScaleTranslate) {
 }
 
 // The map and its vectors in the order of the struct.
-pub fn map(m: Map) {
+fn map(m: Map) {
     match m {
         Map::UniformScaleMap(v) => {
             show::tag(b's');
@@ -130,6 +134,16 @@ pub fn map(m: Map) {
             show::tag(b't');
             scale_translate(v);
         }
+    }
+}
+
+fn transform(s: &[u8], at: usize) {
+    match transform::read_transform(s, at) {
+        MapField::Got(m, p) => {
+            map(m);
+            show::size(p);
+        }
+        MapField::Refused(k) => show::refused(k),
     }
 }
 
@@ -205,12 +219,12 @@ fn lend(
 fn ask_fill(command: u8, words: usize, s: &[u8], name: &[u8], n: &[u64; 8]) {
     let mut slots = [7u32; 600];
     filled(lend(words, s, name, low(n[3]), n[1], &mut slots, n[2] as usize));
-    series::ask(command, s, n, &slots, 0, 600);
+    series::ask(command, s, &slots, 0, 600);
 }
 
 fn ask_row(command: u8, s: &[u8], n: &[u64; 8]) {
     let slots = [0u32; 600];
-    series::ask(command, s, n, &slots, n[1] as usize, n[2] as usize);
+    series::ask(command, s, &slots, n[1] as usize, n[2] as usize);
 }
 
 fn low(n: u64) -> u32 {
@@ -276,18 +290,19 @@ fn ask_command(command: u8, words: usize, s: &[u8], grid: &[u8], name: &[u8], n:
         b'e' => file_entry(s, name),
         b'd' | b'm' | b'o' => ask_grid(command, words, s, low(n[1]), grid, name),
         b'f' | b'v' => ask_fill(command, words, s, name, n),
-        b'c' | b't' | b'H' | b'N' => ask_row(command, s, n),
-        _ => parts::ask(command, s, n),
+        b'c' | b't' => ask_row(command, s, n),
+        b'T' => transform(s, n[1] as usize),
+        _ => {}
     }
 }
 
-fn start(f: &[u8; 262144], at: usize, len: usize) -> &[u8] {
-    fields::bytes_of(f, Span { start: at, len })
-}
-
 pub fn ask(m: Line, f: &[u8; 262144], n: &[u64; 8]) {
-    let s = start(f, 0, m.len);
-    let grid = start(f, 200000, m.grid);
-    let name = fields::bytes_of(f, line::bytes(m));
-    ask_command(m.command, m.words, s, grid, name, n);
+    ask_command(
+        m.command,
+        m.words,
+        line::file(m, f),
+        line::grid(m, f),
+        line::name(m, f),
+        n,
+    );
 }

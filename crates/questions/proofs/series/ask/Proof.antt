@@ -5,10 +5,10 @@ use Rattle.questions.proofs.series.ask.Statement.{statement}
 use Rattle.questions.proofs.series.ask.Tie as tie
 
 abbrev Inv-loop : tie.InvT-loop
-Inv-loop command s n slots from to r₀ i₀ r i = Unit {0}
+Inv-loop command s slots from to last₀ sum₀ i₀ last sum i = Unit {0}
 
 abbrev μ-loop : tie.MeasureT-loop
-μ-loop command s n slots from to r₀ i₀ r i = to - i
+μ-loop command s slots from to last₀ sum₀ i₀ last sum i = to - i
 
 pub ask-spec : {M : Type 1} → statement M
 ask-spec =
@@ -17,9 +17,9 @@ ask-spec =
     (λ c. search needs)
     (λ c κs. search needs)
     (λ c κs. search needs)
-    (λ c. search needs)
-    (λ c. search needs)
-    (λ c. search needs)
     (λ c κs. search needs)
+    (λ c. search needs)
+    (λ c. search needs)
+    (λ c. search needs)
     (λ c κs. search needs)
     (λ c. search needs))

@@ -1,8 +1,8 @@
 -- The loop ends; the place of a byte is tested where it is put.
 use borrow.Author.Needs.{needs}
 use Prim.Native.Nat.{_-_}
-use Rattle.questions.proofs.file.random.Statement.{statement}
-use Rattle.questions.proofs.file.random.Tie as tie
+use Rattle.asking.proofs.file.random.Statement.{statement}
+use Rattle.asking.proofs.file.random.Tie as tie
 
 abbrev Inv-loop : tie.InvT-loop
 Inv-loop f₀ at count seed i₀ f i = Unit {0}

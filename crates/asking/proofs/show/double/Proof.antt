@@ -6,8 +6,8 @@ use Prim.Native.Nat.{ℕ}
 use native.Mathlib.Omega.{arith}
 use lib.Dec.{T}
 use lib.Ieee.{Float, nan, inf, fin, ne, isNan}
-use Rattle.questions.proofs.show.double.Statement.{statement}
-use Rattle.questions.proofs.show.double.Tie as tie
+use Rattle.asking.proofs.show.double.Statement.{statement}
+use Rattle.asking.proofs.show.double.Tie as tie
 
 no-nan : (x : Float) → ne x x ≡ false → T (not (isNan x))
 unfolding ne isNan

@@ -3,8 +3,8 @@ use borrow.Author.Needs.{needs}
 use Rattle.fields.proofs.Laws.{told}
 use Rattle.values.proofs.Laws.{values-held}
 use Rattle.values.specs.Inner.{saysValues}
-use Rattle.questions.proofs.parts.value_of.Statement.{statement}
-use Rattle.questions.proofs.parts.value_of.Tie as tie
+use Rattle.parts.proofs.layers.value_of.Statement.{statement}
+use Rattle.parts.proofs.layers.value_of.Tie as tie
 
 place-value-requires : tie.Need-place-value-requires
 place-value-requires c κs =

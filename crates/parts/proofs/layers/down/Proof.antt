@@ -1,8 +1,8 @@
 -- The test says that the root's origin is aligned.
 use borrow.Author.Needs.{needs}
 use mathlib.Core.Path.{sym, _∙_}
-use Rattle.questions.proofs.parts.down.Statement.{statement}
-use Rattle.questions.proofs.parts.down.Tie as tie
+use Rattle.parts.proofs.layers.down.Statement.{statement}
+use Rattle.parts.proofs.layers.down.Tie as tie
 
 pub down-spec : {M : Type 1} → statement M
 down-spec =

@@ -1,5 +1,7 @@
 // A line of the input, read character by character: a word, whose first letter is the command, and numbers; then after a colon bytes, as pairs
 // of hexadecimal digits or in quotes. A comma ends a grid's name. A line that begins with # is a comment.
+use crate::file;
+use crate::show;
 use fields::Span;
 
 pub struct Line {
@@ -30,12 +32,28 @@ pub fn empty(len: usize) -> Line {
     }
 }
 
+// The whole input, and its length.
+pub fn input(t: &mut [u8; 262144]) -> usize {
+    io::read_full(0, t)
+}
+
+fn part(f: &[u8; 262144], start: usize, len: usize) -> &[u8] {
+    fields::bytes_of(f, Span { start, len })
+}
+
+// The file.
+pub fn file(m: Line, f: &[u8; 262144]) -> &[u8] {
+    part(f, 0, m.len)
+}
+
+// The bytes before the comma.
+pub fn grid(m: Line, f: &[u8; 262144]) -> &[u8] {
+    part(f, 200000, m.grid)
+}
+
 // The bytes after the colon, or after the comma.
-pub fn bytes(m: Line) -> Span {
-    Span {
-        start: m.start,
-        len: m.halves / 2,
-    }
+pub fn name(m: Line, f: &[u8; 262144]) -> &[u8] {
+    part(f, m.start, m.halves / 2)
 }
 
 fn digit(n: &mut [u64; 8], words: usize, c: u8) {
@@ -114,11 +132,21 @@ fn quoted(m: Line, c: u8, f: &mut [u8; 262144]) -> Line {
     half(half(m, c / 16, f), c, f)
 }
 
+// A character of the line, which is written again.
 pub fn read(m: Line, c: u8, f: &mut [u8; 262144], n: &mut [u64; 8]) -> Line {
+    show::letter(c);
     let part = m.part;
     match part {
         0 => number(m, c, n),
         1 => byte(m, c, f),
         _ => quoted(m, c, f),
     }
+}
+
+// The end of a line, whose answer is written: a command that builds the file is done, and the next line begins.
+pub fn end(command: u8, len: usize, f: &mut [u8; 262144], n: &mut [u64; 8]) -> Line {
+    show::letter(b'\n');
+    let after = file::build(command, len, f, n);
+    *n = [0u64; 8];
+    empty(after)
 }

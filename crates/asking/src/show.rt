@@ -8,6 +8,10 @@ pub fn letter(c: u8) {
     io::write_all(1, &[c]);
 }
 
+fn text(t: &[u8]) {
+    io::write_all(1, t);
+}
+
 fn space() {
     letter(b' ');
 }
@@ -20,7 +24,7 @@ pub fn tag(c: u8) {
 
 pub fn number(n: u64) {
     space();
-    report::number(n);
+    io::print_decimal(1, n);
 }
 
 pub fn size(n: usize) {
@@ -45,14 +49,19 @@ pub fn wide(n: u64) {
     io::print_hex(1, n, 8);
 }
 
+// A signed number as its sign and its magnitude; the least number's magnitude has no i64, so the sum is made last.
 pub fn signed(n: i64) {
     space();
-    report::signed(n);
+    if n < 0 {
+        letter(b'-');
+        io::print_decimal(1, (!n) as u64 + 1);
+    } else {
+        io::print_decimal(1, n as u64);
+    }
 }
 
 pub fn signed32(n: i32) {
-    space();
-    report::signed32(n);
+    signed(n as i64);
 }
 
 pub fn i_vec3(v: IVec3) {
@@ -62,12 +71,12 @@ pub fn i_vec3(v: IVec3) {
 }
 
 pub fn refused(k: u32) {
-    report::text(b" refused");
+    text(b" refused");
     small(k);
 }
 
 pub fn nothing() {
-    report::text(b" nothing");
+    text(b" nothing");
 }
 
 // A byte of a name; one that is no letter in hexadecimal digits.
@@ -104,7 +113,7 @@ fn bits(n: u64) {
 // The double's pattern; a NaN has no one pattern.
 pub fn double(x: f64) {
     if x != x {
-        report::text(b" nan");
+        text(b" nan");
     } else {
         bits(f64::to_bits(x));
     }

@@ -2,8 +2,8 @@ use borrow.Author.Needs.{needs}
 use native.Mathlib.Omega.{arith}
 use mir.ValLaws.{toZ-ofZ}
 use mir.Syntax.{w32}
-use Rattle.report.proofs.signed32.Statement.{statement}
-use Rattle.report.proofs.signed32.Tie as tie
+use Rattle.asking.proofs.show.signed32.Statement.{statement}
+use Rattle.asking.proofs.show.signed32.Tie as tie
 
 cast-signed : tie.Need-cast-signed
 cast-signed c = rw (toZ-ofZ w32 (c .args .n) (c .fits .n)) (record { sfits = omega (arith, c .fits .n .sfits) })

@@ -1,7 +1,6 @@
 // The questions to the layers below:
 //
 //     Fields AT                                      a field of each kind
-//     Transform AT
 //     Mask AT BYTES PLACE                            a mask, and a place of it
 //     Two AT AT BYTES                                two masks compared
 //     Halves FROM TO                                 the sum of halves widened
@@ -9,8 +8,8 @@
 //     Node FROM TO VERSION FLAGS WIDTH BYTES         the sum of a node's places; its child mask is at 0, its value mask and its values follow
 //     Place P5 P4 P3                                 places below the root whose origin is at 0
 //     Voxel                                          the root of the voxel at 0, and its places
-use crate::calls;
-use crate::show;
+use asking::series;
+use asking::show;
 use coordinates::GlobalCoord;
 use coordinates::Index;
 use fields::DVec3Field;
@@ -22,7 +21,6 @@ use fields::U8Field;
 use fields::U32Field;
 use fields::U64Field;
 use masks::NextOne;
-use transform::MapField;
 use values::Coding;
 use values::Stored;
 use values::ValuesField;
@@ -106,17 +104,7 @@ fn fields_at(s: &[u8], at: usize) {
     name_field(fields::read_name(s, at), s);
 }
 
-fn transform(s: &[u8], at: usize) {
-    match transform::read_transform(s, at) {
-        MapField::Got(m, p) => {
-            calls::map(m);
-            show::size(p);
-        }
-        MapField::Refused(k) => show::refused(k),
-    }
-}
-
-pub fn half(i: usize) -> u64 {
+fn half(i: usize) -> u64 {
     half::widen((i % 65536) as u16) as u64
 }
 
@@ -146,7 +134,7 @@ fn value_of(s: &[u8], version: u32, flags: u32, width: usize, n: usize, p: usize
     }
 }
 
-pub fn place(s: &[u8], n: &[u64; 8], p: usize) -> u64 {
+fn place(s: &[u8], n: &[u64; 8], p: usize) -> u64 {
     value_of(s, low(n[3]), low(n[4]), n[5] as usize, n[6] as usize, p)
 }
 
@@ -257,12 +245,29 @@ fn ask_down(s: &[u8], a: usize, b: usize, c: usize) {
     down(vector(s), low(a as u64), low(b as u64), low(c as u64));
 }
 
-fn ask_at(command: u8, s: &[u8], a: usize, b: usize, c: usize) {
+// The number at place i of the row that a command asks for.
+fn item(command: u8, s: &[u8], n: &[u64; 8], i: usize) -> u64 {
+    match command {
+        b'H' => half(i),
+        _ => place(s, n, i),
+    }
+}
+
+// The places from `from` to the one before `to`.
+fn row(command: u8, s: &[u8], n: &[u64; 8], from: usize, to: usize) {
+    let mut sum = 0;
+    for i in from..to {
+        sum = series::add(sum, item(command, s, n, i));
+    }
+    series::end(sum);
+}
+
+fn ask_at(command: u8, s: &[u8], n: &[u64; 8], a: usize, b: usize, c: usize) {
     match command {
         b'F' => fields_at(s, a),
-        b'T' => transform(s, a),
         b'M' => mask(s, a, b, c),
         b'D' => two(s, a, b, c),
+        b'H' | b'N' => row(command, s, n, a, b),
         b'S' => stored(s, a, b),
         b'P' => ask_down(s, a, b, c),
         b'V' => back(vector(s)),
@@ -271,5 +276,5 @@ fn ask_at(command: u8, s: &[u8], a: usize, b: usize, c: usize) {
 }
 
 pub fn ask(command: u8, s: &[u8], n: &[u64; 8]) {
-    ask_at(command, s, n[1] as usize, n[2] as usize, n[3] as usize);
+    ask_at(command, s, n, n[1] as usize, n[2] as usize, n[3] as usize);
 }

@@ -3,8 +3,8 @@ use borrow.Author.Needs.{needs}
 use mathlib.Core.Path.{_≡_}
 use Prim.Native.Nat.{_-_}
 use lib.ListN.{length}
-use Rattle.questions.proofs.show.bytes.Statement.{statement}
-use Rattle.questions.proofs.show.bytes.Tie as tie
+use Rattle.asking.proofs.show.bytes.Statement.{statement}
+use Rattle.asking.proofs.show.bytes.Tie as tie
 
 abbrev Inv-loop : tie.InvT-loop
 Inv-loop t i₀ i-end i = i-end ≡ length t
