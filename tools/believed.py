@@ -7,7 +7,7 @@
                            or another file one that is not; ALLOWED below has the exceptions
 
 A definition is reached if a contract of one of CALLS, or the statement of one of THEOREMS, names it,
-or if a reached definition does. Names are followed by the `use` lines, from crate to crate; files are
+or if a reached definition does, unless that is one of OPAQUE. Names are followed by the `use` lines, from crate to crate; files are
 found by scanning. Types of the code (specs.declared) end the search, and so do the libraries. A name
 that a definition binds as a variable is not followed there.
 
@@ -25,13 +25,19 @@ CALLS = [
     'archive::file_entry', 'archive::grid_entry_named', 'archive::grid_entry_numbered',
     'grid::open_grid_named', 'grid::open_grid_numbered',
     'grid::fill_leaf_named', 'grid::fill_leaf_numbered',
+    'walk::walk',
 ]
 
 # Theorems that a reader is pointed to, by crate and name: of these, the statement is looked at, with the
 # parameters of the sections that it stands in. Files proofs/FUNCTION/Proof.antt are not searched.
 THEOREMS = [
-    'grid::listed', 'grid::covered', 'grid::apart',
+    'grid::listed', 'grid::covered', 'grid::apart', 'walk::demand3',
 ]
+
+# crate::name of definitions that are reached but not followed, each with its reason.
+OPAQUE = {
+    'grid::placeAfter': 'a name for a place; which words it has is nothing to believe, as the promises only compare it with itself',
+}
 
 # crate::name of definitions that --check lets stand where they are, each with its reason.
 ALLOWED = {
@@ -301,6 +307,8 @@ def reached_from(crates, calls, theorems):
         follow(found.module, found.statement(), {found.name}, theorem)
     while work:
         definition = work.pop()
+        if '%s::%s' % (definition.module.crate, definition.name) in OPAQUE:
+            continue
         scope = definition.module
         constructors = {name for d in scope.definitions for name in d.constructors()}
         constructors |= {name for name, (path, old) in scope.imports.items()

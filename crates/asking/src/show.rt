@@ -1,4 +1,4 @@
-// What is printed of the answers: numbers and bytes, each after a space. There are few byte strings here, as each of them costs its proof.
+// What is printed of the answers: numbers and bytes, most of them after a space. There are few byte strings here, as each of them costs its proof.
 use fields::DVec3;
 use fields::IVec3;
 use fields::Span;
@@ -8,7 +8,8 @@ pub fn letter(c: u8) {
     io::write_all(1, &[c]);
 }
 
-fn text(t: &[u8]) {
+// Words, as they are.
+pub fn text(t: &[u8]) {
     io::write_all(1, t);
 }
 
@@ -50,8 +51,7 @@ pub fn wide(n: u64) {
 }
 
 // A signed number as its sign and its magnitude; the least number's magnitude has no i64, so the sum is made last.
-pub fn signed(n: i64) {
-    space();
+fn plain(n: i64) {
     if n < 0 {
         letter(b'-');
         io::print_decimal(1, (!n) as u64 + 1);
@@ -60,8 +60,19 @@ pub fn signed(n: i64) {
     }
 }
 
+pub fn signed(n: i64) {
+    space();
+    plain(n);
+}
+
+// A signed number with no space before it, as at a line's start.
+pub fn plain32(n: i32) {
+    plain(n as i64);
+}
+
 pub fn signed32(n: i32) {
-    signed(n as i64);
+    space();
+    plain32(n);
 }
 
 pub fn i_vec3(v: IVec3) {

@@ -3,7 +3,7 @@ use mathlib.Core.Path.{_≡_, refl, sym, ap, _∙_, subst}
 use mathlib.Core.List.{List, []}
 use mathlib.Core.Bool.{Bool, true, false}
 use mathlib.Core.Option.{Option, none, some}
-use Prim.Native.Nat.{ℕ, zero, suc, _%_, _≤_, _<_}
+use Prim.Native.Nat.{ℕ, zero, suc, _<_}
 use native.Mathlib.Omega.{arith}
 use lib.Dec.{lit≤}
 use lib.ListN.{length, getD, drop}
@@ -13,13 +13,13 @@ use Rattle.coordinates.specs.Coordinates.{index, aligned}
 use Rattle.coordinates.specs.declared.GlobalCoord.{GlobalCoord}
 use Rattle.coordinates.proofs.Laws.{child-aligned}
 use Rattle.half.specs.Inner.{isWidth}
-use Rattle.values.specs.Inner.{Held}
+use Rattle.masks.specs.Masks.{maskBit}
+use Rattle.values.specs.Values.{isStored}
 use Rattle.values.specs.declared.Coding.{Coding}
-use Rattle.values.specs.declared.Stored.the-variants.{Every as EveryPlace, Childless}
-use Rattle.values.proofs.Laws.{values-held}
-use Rattle.nodes.specs.Nodes.{nodeField, blockField}
+use Rattle.values.proofs.Laws.{node-active, leaf-active}
+use Rattle.nodes.specs.Nodes.{blockField}
 use Rattle.nodes.specs.declared.Leaf.{Leaf}
-use Rattle.nodes.proofs.Laws.{block-back, whole-mask}
+use Rattle.nodes.proofs.Laws.{node-back, block-back}
 use Rattle.tree.specs.Topology.{leafField}
 use Rattle.tree.specs.Active.{Piece}
 use Rattle.cursor.specs.Inner.{Rest, Stop, only, refusedBy, stop, after, Onward, HeldPiece, beyond, nextChild}
@@ -34,18 +34,12 @@ pub data Step (s : List ℕ) (c : Coding) : Rest Stop → Type 0 where
   one : {q : Piece} {x : Cursor} {r : Rest Stop} → HeldPiece s c q → r ≡ toCome s c x → Step s c (stop q x r)
 
 module _ (s : List ℕ) (c : Coding) (wide : isWidth (c .width)) where
-  -- what was read can be read from: a node, and a leaf's block
-  node-held : (n at : ℕ) → n % 8 ≡ 0 → n ≤ 4096 → Always (λ h p. Held s c n (h .child) (h .value) (h .values)) (nodeField s c n at)
-  unfolding nodeField
-  node-held n at m l =
-      then-always _ _ _ λ child p e. then-always _ _ _ λ value q f. check-always _ _ _ _ λ ok. then-always _ _ _ λ v r g. got-always _ _ _
-      (values-held c Childless s n (child .start) (value .start) q (whole-mask s at n m l e) (whole-mask s p n m l f) wide g)
-
-  block-held : (l : Leaf) (at : ℕ) → Always (λ b p. Held s c 64 (b .mask) (b .mask) (b .values)) (blockField s c l at)
+  -- an active place of a leaf's block is stored
+  block-kept : (l : Leaf) (at p : ℕ) → Always (λ b e. maskBit s (b .mask) p ≡ true → isStored s (b .values .stored) (b .mask) (b .mask) p ≡ true) (blockField s c l at)
   unfolding blockField
-  block-held l at =
-      then-always _ _ _ λ m p e. check-always _ _ _ _ λ ok. then-always _ _ _ λ u q f. then-always _ _ _ λ v r g. got-always _ _ _
-      (values-held c EveryPlace s 64 (m .start) (m .start) q (whole-mask s at 64 refl (lit≤ tt) e) (whole-mask s at 64 refl (lit≤ tt) e) wide g)
+  block-kept l at p =
+      then-always _ _ _ λ m q e. check-always _ _ _ _ λ ok. then-always _ _ _ λ u q f. then-always _ _ _ λ v r g. got-always _ _ _
+      (leaf-active c s 64 (m .start) (m .start) q p g)
 
   after-step : {A : Type 0} (m : Parse A) (f : A → ℕ → Rest Stop) → Always (λ a n. Step s c (f a n)) m → Step s c (after m f)
   unfolding after
@@ -75,22 +69,26 @@ module _ (s : List ℕ) (c : Coding) (wide : isWidth (c .width)) where
   unfolding leafRest leafField
   leaf-step left five o node a p at block =
       after-step _ _ (then-always _ _ _ λ mask q d. got-always _ _ _ (after-step _ _ λ b r e.
-      let own = sym (block-back s c _ block b r e .origin) in
-      let multiple = subst (λ (o : GlobalCoord). aligned 8 o ≡ true) own (child-aligned 16 8 o (index p) (lit≤ tt) (lit≤ tt) a) in
-      one (record { held = block-held _ block b r e; multiple = multiple })
+      let h = block-back s c _ block b r e in
+      let multiple = subst (λ (o : GlobalCoord). aligned 8 o ≡ true) (sym (h .origin)) (child-aligned 16 8 o (index p) (lit≤ tt) (lit≤ tt) a) in
+      one (record { held = h .held wide; multiple = multiple; kept = λ p l. block-kept _ block p b r e })
       (sym (to-come4 s c left q r five (beyond o node p)))))
 
   from4-step : (left : ℕ) (five four : Entered) (at block : ℕ) → Step s c (from4 s c left five four at block)
   unfolding rest4 leaving
   from4-step left five four at block =
       children-step 128 512 _ four _ at block (λ a q. leaf-step left five (four .origin) (four .pos) a q at block)
-      (λ a. after-step _ _ λ h e d. one (record { held = node-held 512 _ refl (lit≤ tt) h e d; multiple = a }) (sym (to-come5 s c left at block five)))
+      (λ a. after-step _ _ λ h e d.
+      let b = node-back 512 s c _ refl (lit≤ tt) h e d in
+      one (record { held = b .held wide; multiple = a; kept = λ p l. node-active _ s 512 _ _ p (b .apart) l }) (sym (to-come5 s c left at block five)))
 
   from5-step : (left : ℕ) (five : Entered) (at block : ℕ) → Step s c (from5 s c left five at block)
   unfolding rest5 node4Rest leaving
   from5-step left five at block =
       children-step 4096 4096 _ five _ at block (λ a q. after-step _ _ λ h p d. from4-step left (beyond (five .origin) (five .pos) q) _ p block)
-      (λ a. after-step _ _ λ h e d. one (record { held = node-held 4096 _ refl (lit≤ tt) h e d; multiple = a }) (sym (to-come0 s c left at block)))
+      (λ a. after-step _ _ λ h e d.
+      let b = node-back 4096 s c _ refl (lit≤ tt) h e d in
+      one (record { held = b .held wide; multiple = a; kept = λ p l. node-active _ s 4096 _ _ p (b .apart) l }) (sym (to-come0 s c left at block)))
 
   roots-step : (left at block : ℕ) → Step s c (rootsRest s c left at block)
   unfolding rootsRest

@@ -1,7 +1,7 @@
 -- Inner matter: only contracts of inner functions cite it, and nothing here has to be believed.
 -- It says what a cursor, whatever its words are, still hands out. That from the start on this is the tree's own pieces is proved in
 -- proofs/Whole.antt.
-use Prim.Native.Nat.{ℕ, zero, suc, _+_, _-_, _*_, _/_}
+use Prim.Native.Nat.{ℕ, zero, suc, _+_, _-_, _*_, _/_, _<_}
 use mathlib.Core.List.{List, [], _∷_, _++_, map}
 use mathlib.Core.Bool.{Bool, true, _&&_}
 use mathlib.Core.Path.{_≡_}
@@ -15,6 +15,7 @@ use Rattle.coordinates.specs.Coordinates.{index, places, globalOf, aligned}
 use Rattle.coordinates.specs.declared.GlobalCoord.{GlobalCoord}
 use Rattle.masks.specs.Masks.{maskBit, onesFrom}
 use Rattle.masks.specs.Inner.{nextOne}
+use Rattle.values.specs.Values.{isStored}
 use Rattle.values.specs.Inner.{Held}
 use Rattle.values.specs.declared.Coding.{Coding}
 use Rattle.nodes.specs.Nodes.{originOf, nodeField, blockField}
@@ -173,8 +174,9 @@ saysChild (ChildAt p) = some (some (p .0))
 saysChild NoChild = some none
 saysChild RefusedChild = none
 
--- What a reader of a piece's places asks, and every piece that is handed out has (proofs/Step.antt): its masks and values lie in the file, and
--- its origin is a multiple of its span.
+-- What a reader of a piece's places asks, and every piece that is handed out has (proofs/Step.antt): its masks and values lie in the file, its
+-- origin is a multiple of its span, and an active place is stored.
 pub record HeldPiece (s : List ℕ) (c : Coding) (q : Piece) : Type 0 where
   pub held : Held s c (places (edgeOf (q .level)) / 8) (q .child) (q .value) (q .values)
   pub multiple : aligned (edgeOf (q .level) * sideOf (q .level)) (q .origin) ≡ true
+  pub kept : (p : ℕ) → p < places (edgeOf (q .level)) → maskBit s (q .value) p ≡ true → isStored s (q .values .stored) (q .child) (q .value) p ≡ true

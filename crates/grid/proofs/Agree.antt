@@ -30,6 +30,8 @@ use Rattle.tree.specs.Blocks.{blocksField}
 use Rattle.tree.specs.Active.{allBlocks, Record}
 use Rattle.tree.proofs.Agree.{SameTree, SameFilled5, topology-tells, blocks-tells, active-same, spot-same, blocks-same}
 use Rattle.grid.specs.Grid.{isFloatTree, codingOf, rootLimit, contentField, gridField, Grid, activeOf, spotOf, grid, openGrid, leafNumbered, presentLeaf, fillLeaf}
+use Rattle.grid.specs.Inner.{contentOf, openedBy}
+use Rattle.grid.proofs.Laws.{opened-so}
 use Rattle.grid.specs.declared.OpenedGrid.{OpenedGrid}
 use Rattle.grid.proofs.Leaves.{width-is}
 
@@ -83,19 +85,6 @@ unfolding present
 present-maybe P none h e = let z : _≡_ {A = ℕ} 0 1 = cc in absurd (omega arith)
 present-maybe P (some b) h e = rw (gives-same e) h
 
--- what opening hands out, for a list of this length
-abbrev openedWith : Grid → ℕ → OpenedGrid
-openedWith g n = record {
-  coding = g .coding;
-  transform = g .map;
-  «transform_end» = g .mapEnd;
-  background = g .tree .head .background;
-  «active_count» = n;
-  «roots_pos» = g .tree .head .«roots_pos»;
-  «root_count» = g .tree .head .«root_count»;
-  «block_pos» = g .block;
-}
-
 leaf-maybe : (P : Block → Type 0) (l : List Block) (k : ℕ) {b : Block} → Each P l → gives b ≡ presentLeaf (getElem? l k) → P b
 unfolding presentLeaf
 leaf-maybe P [] k h e = let z : _≡_ {A = ℕ} 0 1 = cc in absurd (omega arith)
@@ -127,7 +116,8 @@ module _ (s t : List ℕ) (asked : Asked) (name : List ℕ) (u : SameAsked s t a
   open-again x e =
       let y = with-back (grid s asked name) _ e in
       let w = grid-again (y .0) (y .1) in
-      with-gives _ (w .0) (y .2 ∙ ap (λ (l : List Record). gives (openedWith (y .0) (length l))) (active-again (y .0) (y .1)))
+      let same = ap (λ (l : List Record). openedBy (contentOf (y .0) (length l))) (active-again (y .0) (y .1)) in
+      with-gives _ (w .0) (y .2 ∙ ap gives (opened-so s (y .0) ∙ same ∙ sym (opened-so t (y .0))))
 
   pub fill-again : (k slots : ℕ) (x : List ℕ) → gives x ≡ fillLeaf s asked name k slots → gives x ≡ fillLeaf t asked name k slots
   unfolding fillLeaf

@@ -25,8 +25,9 @@ use Rattle.tree.specs.Blocks.{Filled5}
 use Rattle.tree.specs.Active.{allBlocks}
 use Rattle.tree.specs.Inner.{Summary, over, plusBlock, traversedOf}
 use Rattle.tree.proofs.Counting.{blocks-passed, active-length, found-at}
-use Rattle.grid.specs.Grid.{Grid, isFloatTree, isPacked, codingOf, contentField, gridField, grid, openedOf, openGrid}
-use Rattle.grid.specs.Inner.{Looked, looked, passedOf, passedField, lookField, look}
+use Rattle.grid.specs.Grid.{Grid, isFloatTree, isPacked, codingOf, contentField, gridField, grid, activeOf, placeAfter, openedOf, openGrid}
+use Rattle.grid.specs.Inner.{contentOf, openedBy, Looked, looked, passedOf, passedField, lookField, look}
+use Rattle.place.proofs.Places.{after-none}
 
 -- what the blocks of a filled tree sum up to
 abbrev summed : List ℕ → ℕ → List Filled5 → Summary
@@ -41,7 +42,7 @@ content-passed s c d wanted =
     (λ filled r. record { coding = c; map = map; mapEnd = p; tree = tree; treeEnd = q; block = d .«block_pos»; filled = filled; blocksEnd = r }) (looked s wanted)
     λ filled r e.
     ap₂ (λ (n : ℕ) (l : Option Block). record {
-      opened = record {
+      content = record {
         coding = c;
         transform = map;
         «transform_end» = p;
@@ -99,6 +100,11 @@ module _ (s : List ℕ) (asked : Asked) (name : List ℕ) (wanted : ℕ) where
         go (got g n) = refl
         go (fails k) = refl
 
+-- the place after no record is made of what a grid's content has
+pub opened-so : (s : List ℕ) (g : Grid) → openedOf s g ≡ openedBy (contentOf g (length (activeOf s g)))
+unfolding placeAfter
+opened-so s g = rw (after-none s (g .coding) _ _ _ _)
+
 -- opening a grid wants no leaf, and its answer is that of any question
 module _ (s : List ℕ) (asked : Asked) (name : List ℕ) (wanted : ℕ) where
   pub open-refuses : (k : ℕ) → refuses k ≡ look s asked name wanted → refuses k ≡ openGrid s asked name
@@ -109,12 +115,12 @@ module _ (s : List ℕ) (asked : Asked) (name : List ℕ) (wanted : ℕ) where
       go (gives g) e = cc
       go (refuses j) e = cc
 
-  pub open-gives : (l : Looked) → gives l ≡ look s asked name wanted → gives (l .opened) ≡ openGrid s asked name
+  pub open-gives : (l : Looked) → gives l ≡ look s asked name wanted → gives (openedBy (l .content)) ≡ openGrid s asked name
   unfolding look openGrid with
   open-gives l = go (grid s asked name)
     where
-      go : (m : Answer Grid) → gives l ≡ with m (λ g. gives (looked s wanted g)) → gives (l .opened) ≡ with m (λ g. gives (openedOf s g))
+      go : (m : Answer Grid) → gives l ≡ with m (λ g. gives (looked s wanted g)) → gives (openedBy (l .content)) ≡ with m (λ g. gives (openedOf s g))
       go (gives g) e =
           let x : l ≡ looked s wanted g = cc in
-          ap (λ (l : Looked). gives (l .opened)) x
+          ap (λ (l : Looked). gives (openedBy (l .content))) x ∙ ap gives (sym (opened-so s g))
       go (refuses j) e = cc

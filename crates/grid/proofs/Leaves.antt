@@ -132,13 +132,13 @@ module _ (s : List ℕ) (asked : Asked) (name : List ℕ) (wanted slots : ℕ) w
       unfolding fillLeaf presentLeaf
       fill-slots h = with-gives _ (seen .1) (with-gives _ (ap presentLeaf found) (when-false _ (sym (ne-eqb slots 512 h)) refl))
 
-      pub fill-gives : slots ≡ 512 → gives (leafValues s (l .opened .coding) (b .mask) (b .values)) ≡ fillLeaf s asked name wanted slots
+      pub fill-gives : slots ≡ 512 → gives (leafValues s (l .content .coding) (b .mask) (b .values)) ≡ fillLeaf s asked name wanted slots
       unfolding fillLeaf presentLeaf
       fill-gives h =
           with-gives _ (seen .1) (with-gives _ (ap presentLeaf found)
-          (when-true _ (sym (eq-eqb slots 512 h)) (ap (λ (l : Looked). gives (leafValues s (l .opened .coding) (b .mask) (b .values))) (seen .2))))
+          (when-true _ (sym (eq-eqb slots 512 h)) (ap (λ (l : Looked). gives (leafValues s (l .content .coding) (b .mask) (b .values))) (seen .2))))
 
-      pub fill-held : Held s (l .opened .coding) 64 (b .mask) (b .mask) (b .values)
+      pub fill-held : Held s (l .content .coding) 64 (b .mask) (b .mask) (b .values)
       fill-held =
           rw (seen .2)
           (all-at (HeldBlock (seen .0 .coding) s) (allBlocks (seen .0 .filled)) wanted b (grid-held s asked name (seen .0) (seen .1)) (sym found))

@@ -24,6 +24,8 @@ use Rattle.nodes.specs.declared.Block.{Block}
 use Rattle.tree.specs.Topology.{Tree, topology}
 use Rattle.tree.specs.Blocks.{Filled5, blocksField}
 use Rattle.tree.specs.Active.{Record, Spot, activeList, allBlocks, spot}
+use Rattle.place.specs.Inner.{placeFrom}
+use Rattle.place.specs.declared.Place.{Place}
 use Rattle.grid.specs.declared.OpenedGrid.{OpenedGrid}
 
 -- check 12: a tree of floats, whichever way its type's name says how they are stored
@@ -99,18 +101,20 @@ activeOf s g = activeList s (g .coding) (g .filled)
 abbrev pub spotOf : List ℕ → Grid → GlobalCoord → Spot
 spotOf s g v = spot s (g .coding) (g .tree .head .background) (g .filled) v
 
--- Section 7: what opening a grid hands out: the transform, the background, the length of the active list; where the transform ends, whose doubles
--- stand before that; and what a walk over the grid starts from.
+-- Section 7: the place of a walk after so many records of the active list, right behind the last of them. Nothing about it has to be believed but that
+-- it is a value of its own for each file, grid and number of records; its words are inner matter.
+unfoldable pub placeAfter : List ℕ → Grid → ℕ → Place
+placeAfter s g m = placeFrom s (g .coding) (g .tree .head .«roots_pos») (g .tree .head .«root_count») (g .block) (length (activeOf s g)) m
+
+-- Section 7: what opening a grid hands out: the transform, the background, the length of the active list, and the place of a walk before its first
+-- record; and where the transform ends, whose doubles stand before that.
 abbrev pub openedOf : List ℕ → Grid → OpenedGrid
 openedOf s g = record {
-  coding = g .coding;
   transform = g .map;
   «transform_end» = g .mapEnd;
   background = g .tree .head .background;
   «active_count» = length (activeOf s g);
-  «roots_pos» = g .tree .head .«roots_pos»;
-  «root_count» = g .tree .head .«root_count»;
-  «block_pos» = g .block;
+  place = placeAfter s g 0;
 }
 
 unfoldable pub openGrid : List ℕ → Asked → List ℕ → Answer OpenedGrid

@@ -2,6 +2,7 @@
 use Prim.Native.Nat.{ℕ, _+_}
 use mathlib.Core.List.{List}
 use mathlib.Core.Option.{Option}
+use lib.ListN.{length}
 use Rattle.fields.specs.Parse.{Parse, got, then}
 use Rattle.archive.specs.Answer.{Answer, gives, refuses, with}
 use Rattle.header.specs.declared.ArchiveHeader.{ArchiveHeader}
@@ -12,23 +13,48 @@ use Rattle.transform.specs.declared.Map.{Map}
 use Rattle.values.specs.declared.Coding.{Coding}
 use Rattle.nodes.specs.declared.Block.{Block}
 use Rattle.tree.specs.Inner.{Summary, Traversed, traversal, saysLeaf}
-use Rattle.grid.specs.Grid.{Grid, rootLimit, gridField, grid, openedOf, leafNumbered}
+use Rattle.place.specs.Inner.{freshPlace}
+use Rattle.grid.specs.Grid.{Grid, rootLimit, gridField, grid, activeOf, leafNumbered}
+use Rattle.grid.specs.declared.Content.{Content}
 use Rattle.grid.specs.declared.OpenedGrid.{OpenedGrid}
 use Rattle.grid.specs.declared.FoundAnswer.{FoundAnswer}
 use Rattle.grid.specs.declared.FoundAnswer.the-variants.{Got as GotFound, Refused as RefusedFound}
 
--- an opened grid, and the leaf that was wanted of it
+-- a grid's content: what opening hands out, with what a walk starts from in place of a place
+abbrev pub contentOf : Grid → ℕ → Content
+contentOf g n = record {
+  coding = g .coding;
+  transform = g .map;
+  «transform_end» = g .mapEnd;
+  background = g .tree .head .background;
+  «active_count» = n;
+  «roots_pos» = g .tree .head .«roots_pos»;
+  «root_count» = g .tree .head .«root_count»;
+  «block_pos» = g .block;
+}
+
+-- the opened grid of this content
+abbrev pub openedBy : Content → OpenedGrid
+openedBy c = record {
+  transform = c .transform;
+  «transform_end» = c .«transform_end»;
+  background = c .background;
+  «active_count» = c .«active_count»;
+  place = freshPlace (c .coding) (c .«roots_pos») (c .«root_count») (c .«block_pos») (c .«active_count»);
+}
+
+-- a grid's content, and the leaf that was wanted of it
 pub record Looked : Type 0 where
-  pub opened : OpenedGrid
+  pub content : Content
   pub leaf : Option Block
 
 abbrev pub looked : List ℕ → ℕ → Grid → Looked
-looked s wanted g = record { opened = openedOf s g; leaf = leafNumbered wanted (g .filled) }
+looked s wanted g = record { content = contentOf g (length (activeOf s g)); leaf = leafNumbered wanted (g .filled) }
 
 -- the same from what one pass over topology and blocks keeps
 abbrev pub passedOf : Coding → Map → ℕ → ℕ → Traversed → Summary → Looked
 passedOf c map end block t m = record {
-  opened = record {
+  content = record {
     coding = c;
     transform = map;
     «transform_end» = end;
@@ -55,5 +81,5 @@ unfoldable pub look : List ℕ → Asked → List ℕ → ℕ → Answer Looked
 look s asked name wanted = with (grid s asked name) λ g. gives (looked s wanted g)
 
 abbrev pub saysLooked : FoundAnswer → Answer Looked
-saysLooked (GotFound f) = gives (record { opened = f .grid; leaf = saysLeaf (f .leaf) })
+saysLooked (GotFound f) = gives (record { content = f .content; leaf = saysLeaf (f .leaf) })
 saysLooked (RefusedFound k) = refuses k

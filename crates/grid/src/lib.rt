@@ -7,7 +7,7 @@ ghost use Rattle.archive.specs.Answer.{answer};
 ghost use Rattle.half.specs.Inner.{isWidth};
 ghost use Rattle.tree.specs.Inner.{saysPassed, traversed};
 ghost use Rattle.grid.specs.Grid.{isFloatTree, isPacked, widthOf, codingOf, openGrid, openGridNamed, openGridNumbered, fillLeaf, fillLeafNamed, fillLeafNumbered};
-ghost use Rattle.grid.specs.Inner.{passedOf, passedField, lookField, look, saysLooked};
+ghost use Rattle.grid.specs.Inner.{passedOf, passedField, lookField, look, saysLooked, openedBy};
 ghost use Rattle.grid.specs.Answers.{saysGridAnswer, saysFill, keptBy};
 use archive::Asked;
 use archive::FileAnswer;
@@ -15,6 +15,7 @@ use archive::FoundGrid;
 use descriptor::GridDescriptor;
 use descriptor::HalfEntry;
 use header::ArchiveHeader;
+use place::Place;
 use transform::Map;
 use transform::MapField;
 use tree::BlocksAt;
@@ -23,9 +24,18 @@ use tree::Topology;
 use tree::TopologyField;
 use values::Coding;
 
-// An opened grid: how its values are stored, its transform and where that ends, its background's pattern, the length of its active list, and
-// where its roots and its blocks start. The patterns of the transform's doubles are the last 120 bytes before its end, or the last 144.
+// An opened grid: its transform and where that ends, its background's pattern, the length of its active list, and the place of a walk before its
+// first record. The patterns of the transform's doubles are the last 120 bytes before its end, or the last 144.
 pub struct OpenedGrid {
+    pub transform: Map,
+    pub transform_end: usize,
+    pub background: u32,
+    pub active_count: u64,
+    pub place: Place,
+}
+
+// The same with what a walk starts from in place of a place: how values are stored, and where the roots and the blocks start.
+pub struct Content {
     pub coding: Coding,
     pub transform: Map,
     pub transform_end: usize,
@@ -46,9 +56,9 @@ pub enum FillAnswer {
     Refused(u32),
 }
 
-// An opened grid, with the leaf that was wanted.
+// A grid's content, with the leaf that was wanted.
 pub struct Found {
-    pub grid: OpenedGrid,
+    pub content: Content,
     pub leaf: FoundLeaf,
 }
 
@@ -130,7 +140,7 @@ fn found_in(c: Coding, map: Map, end: usize, block_pos: usize, t: Topology) -> F
     match state {
         BlocksAt::Refused(k) => FoundAnswer::Refused(k),
         BlocksAt::At(_) => {
-            let grid = OpenedGrid {
+            let content = Content {
                 coding: c,
                 transform: map,
                 transform_end: end,
@@ -140,7 +150,7 @@ fn found_in(c: Coding, map: Map, end: usize, block_pos: usize, t: Topology) -> F
                 root_count: head.root_count,
                 block_pos,
             };
-            FoundAnswer::Got(Found { grid, leaf })
+            FoundAnswer::Got(Found { content, leaf })
         }
     }
 }
@@ -177,14 +187,36 @@ fn look_at(s: &[u8], asked: Asked, name: &[u8], wanted: u64) -> FoundAnswer
     }
 }
 
+// A walk over the grid starts from what its content has.
+fn opened(content: Content) -> OpenedGrid
+    ensures { λ r. ⌜ r ≡ openedBy content ⌝ }
+{
+    let transform = content.transform;
+    let coding = content.coding;
+    let place = place::fresh(
+        coding,
+        content.roots_pos,
+        content.root_count,
+        content.block_pos,
+        content.active_count,
+    );
+    OpenedGrid {
+        transform,
+        transform_end: content.transform_end,
+        background: content.background,
+        active_count: content.active_count,
+        place,
+    }
+}
+
 fn open_grid(s: &[u8], asked: Asked, name: &[u8]) -> GridAnswer
     ensures { λ r. ⌜ saysGridAnswer r ≡ openGrid (now (s .entry)) asked (now (name .entry)) ⌝ }
 {
     match look_at(s, asked, name, 0) {
         FoundAnswer::Refused(k) => GridAnswer::Refused(k),
         FoundAnswer::Got(f) => {
-            let grid = f.grid;
-            GridAnswer::Grid(grid)
+            let content = f.content;
+            GridAnswer::Grid(opened(content))
         }
     }
 }
@@ -211,8 +243,8 @@ fn fill_asked(s: &[u8], asked: Asked, name: &[u8], number: u64, slots: &mut [u32
         FoundAnswer::Refused(k) => FillAnswer::Refused(k),
         FoundAnswer::Got(f) => {
             let leaf = f.leaf;
-            let grid = f.grid;
-            let coding = grid.coding;
+            let content = f.content;
+            let coding = content.coding;
             match leaf {
                 FoundLeaf::Nothing => FillAnswer::Refused(21),
                 FoundLeaf::At(b) => {

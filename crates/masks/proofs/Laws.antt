@@ -51,7 +51,7 @@ module _ (f : ℕ → Bool) where
   ones-append (suc j) p k = rw (suc-add, ones-append j (suc p) k, consIf-append, add-suc, suc-add)
 
   -- Counts.
-  length-suc : (p k : ℕ) → length (onesFrom f p (suc k)) ≡ cond (f p) 1 0 + length (onesFrom f (suc p) k)
+  pub length-suc : (p k : ℕ) → length (onesFrom f p (suc k)) ≡ cond (f p) 1 0 + length (onesFrom f (suc p) k)
   unfolding onesFrom
   length-suc p k = consIf-length (f p) p (onesFrom f (suc p) k)
 

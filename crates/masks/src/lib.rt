@@ -23,7 +23,7 @@ pub fn bit(s: &[u8], at: usize, n: usize, p: Index) -> bool
 }
 
 // The bits of the 64 places from 8 * i on, as a number.
-fn word(s: &[u8], at: usize, n: usize, i: usize) -> u64
+pub fn word(s: &[u8], at: usize, n: usize, i: usize) -> u64
     requires { ⌜ IsMask (now s) at n × (i % 8 ≡ 0) × (i < n) ⌝ }
     ensures { λ r. ⌜ IsWord (maskBit (now (s .entry)) at) (8 * i) r ⌝ }
 {
@@ -45,7 +45,7 @@ pub fn count_ones(s: &[u8], at: usize, n: usize) -> u32
 }
 
 // The bits of a word below bit r.
-fn low_bits(w: u64, r: usize) -> u64
+pub fn low_bits(w: u64, r: usize) -> u64
     requires { ⌜ r < 64 ⌝ }
     ensures { λ x. ⌜ x ≡ w % 2 ^ r ⌝ }
 {
@@ -85,7 +85,7 @@ pub fn count_zeros_below(s: &[u8], at: usize, n: usize, p: Index) -> u32
 }
 
 // The bits of a word from bit r on.
-fn high_bits(w: u64, r: usize) -> u64
+pub fn high_bits(w: u64, r: usize) -> u64
     requires { ⌜ r < 64 ⌝ }
     ensures { λ x. ⌜ x ≡ w / 2 ^ r ⌝ }
 {

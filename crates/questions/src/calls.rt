@@ -159,7 +159,8 @@ fn open(a: grid::GridAnswer) {
         grid::GridAnswer::Grid(g) => {
             let m = g.transform;
             map(m);
-            counts(g.background, g.root_count, g.active_count);
+            let p = g.place;
+            counts(g.background, p.root_count, g.active_count);
         }
     }
 }

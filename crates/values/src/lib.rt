@@ -347,7 +347,7 @@ pub fn stored_value(s: &[u8], c: Coding, start: usize, k: usize) -> u32
 }
 
 // The same with the table of the halves lent, which is looked at for values of 2 bytes only.
-fn stored_with(table: &[u32], s: &[u8], c: Coding, start: usize, k: usize) -> u32
+pub fn stored_with(table: &[u32], s: &[u8], c: Coding, start: usize, k: usize) -> u32
     requires { ⌜ (c .width ≡ 2 → isTable (now table)) × isWidth (c .width) × InRun (now s) c start k ⌝ }
     ensures { λ r. ⌜ r ≡ storedValue (now (s .entry)) (c .width) (start + k * c .width) ⌝ }
 {

@@ -1,4 +1,6 @@
 use borrow.Author.Needs.{needs}
+use mathlib.Core.Path.{ap, _∙_}
+use Rattle.archive.specs.Answer.{gives}
 use Rattle.grid.proofs.Laws.{open-refuses, open-gives}
 use Rattle.grid.specs.Inner.{saysLooked}
 use Rattle.fields.proofs.Laws.{told}
@@ -9,7 +11,9 @@ returns : tie.Need-returns
 returns c = open-refuses _ _ _ _ _ (told saysLooked (c .before .k .given .1) (c .before .before .before .look-at .ensures))
 
 returns-2 : tie.Need-returns-2
-returns-2 c = open-gives _ _ _ _ _ (told saysLooked (c .before .before .f .given .1) (c .before .before .before .before .look-at .ensures))
+returns-2 c =
+    let f = c .before .before .before in
+    ap gives (c .opened .ensures) ∙ open-gives _ _ _ _ _ (told saysLooked (f .f .given .1) (f .before .before .look-at .ensures))
 
 pub open-grid-spec : {M : Type 1} → statement M
-open-grid-spec = tie.close (tie.spec (λ c κs. search needs) (λ c. search needs) (λ c. search needs) returns returns-2)
+open-grid-spec = tie.close (tie.spec (λ c κs. search needs) (λ c. search needs) (λ c. search needs) (λ c κs. search needs) returns returns-2)

@@ -11,8 +11,8 @@ use lib.Signed.{mag, ltZ}
 use mir.Syntax.{w64}
 use mir.Val.{toZ, ofZ, Fits}
 use mir.ValLaws.{toZ-pos, toZ-ofZ}
-use Rattle.asking.proofs.show.signed.Statement.{statement}
-use Rattle.asking.proofs.show.signed.Tie as tie
+use Rattle.asking.proofs.show.plain.Statement.{statement}
+use Rattle.asking.proofs.show.plain.Tie as tie
 
 below : (z : ℤ) → mag z < 2 ^ 63 → ltZ (toZ w64 (ofZ w64 z)) (pos 0) ≡ true → (k : ℕ) × (toZ w64 (18446744073709551615 - ofZ w64 z) ≡ pos k) × (k < 2 ^ 63)
 below (pos n) h t =
@@ -31,24 +31,24 @@ fits z k j e h = rw e (record { fits = h })
 
 cast-print-decimal : tie.Need-cast-print-decimal
 cast-print-decimal c =
-    let s = c .before .before .before in
+    let s = c .before .before in
     let k = below (s .args .n) (s .fits .n .sfits) (c .before .if1 .taken) in
     rw (k .1) (tt, record { fits = omega (arith, k .2) })
 
 add-print-decimal : tie.Need-add-print-decimal
 add-print-decimal c =
-    let s = c .before .before .before in
+    let s = c .before .before in
     let k = below (s .args .n) (s .fits .n .sfits) (c .before .if1 .taken) in
     fits _ (k .0) 1 (k .1) (omega (arith, k .2))
 
 cast-print-decimal-2 : tie.Need-cast-print-decimal-2
 cast-print-decimal-2 c =
-    let s = c .before .before in
+    let s = c .before in
     let k = above (s .args .n) (s .fits .n .sfits) (c .if1 .left) in
     rw (k .1) (tt, record { fits = omega (arith, k .2) })
 
-pub signed-spec : {M : Type 1} → statement M
-signed-spec =
+pub plain-spec : {M : Type 1} → statement M
+plain-spec =
     tie.close
-    (tie.spec (λ c κs. search needs) (λ c κs. search needs) cast-print-decimal add-print-decimal (λ c κs. search needs) cast-print-decimal-2
+    (tie.spec (λ c κs. search needs) cast-print-decimal add-print-decimal (λ c κs. search needs) cast-print-decimal-2
     (λ c κs. search needs) (λ c. search needs) (λ c. search needs))

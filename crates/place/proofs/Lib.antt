@@ -1,0 +1,5 @@
+pub mod Laws
+pub mod Own
+pub mod List
+pub mod Cut
+pub mod Places

@@ -1,0 +1,168 @@
+-- Inner matter: only contracts of inner functions cite it, and nothing here has to be believed.
+-- What handing out the records of a piece comes to, place by place, wherever in it a walk stands and whatever its words are.
+-- That for a piece of a grid these are the piece's own records is proved above, in the crate `place` (proofs/Own.antt).
+use Prim.Native.Nat.{ℕ, zero, suc, _+_, _-_, _*_, _/_, _^_, _≤_, _<_}
+use mathlib.Core.Path.{_≡_}
+use mathlib.Core.List.{List, [], _∷_, _++_}
+use mathlib.Core.Bool.{Bool, true, false, not, cond, _&&_}
+use lib.Dec.{leb, ltb, eqb}
+use lib.IntN.{ℤ}
+use lib.ListN.{length, set}
+use Rattle.fields.specs.Parse.{when}
+use Rattle.coordinates.specs.Coordinates.{index, places, globalOf, aligned}
+use Rattle.coordinates.specs.declared.GlobalCoord.{GlobalCoord}
+use Rattle.masks.specs.Masks.{digit, maskBit, ones, countBelow}
+use Rattle.masks.specs.Inner.{IsMask}
+use Rattle.half.specs.Half.{storedValue}
+use Rattle.half.specs.Inner.{isTable, isWidth}
+use Rattle.values.specs.declared.Coding.{Coding}
+use Rattle.tree.specs.Active.{Record, sideOf, edgeOf}
+use Rattle.records.specs.Slots.{Slots, laid}
+use Rattle.records.specs.declared.Inside.{Inside}
+use Rattle.records.specs.declared.Run.{Run}
+use Rattle.records.specs.declared.Bits.{Bits}
+
+-- all five have slots up to n
+pub record Room (n : ℕ) (t : Slots) : Type 0 where
+  pub in-x : n ≤ length (t .x)
+  pub in-y : n ≤ length (t .y)
+  pub in-z : n ≤ length (t .z)
+  pub in-level : n ≤ length (t .level)
+  pub in-value : n ≤ length (t .value)
+
+abbrev pub recordOf : GlobalCoord → ℕ → ℕ → Record
+recordOf o l v = record { corner = o; level = l; value = v }
+
+-- How many bytes a piece's masks have, by its level.
+abbrev pub maskBytes : ℕ → ℕ
+maskBytes level = places (edgeOf level) / 8
+
+-- how many stored values of a run that starts here can lie in the file
+abbrev pub roomOf : List ℕ → Coding → ℕ → ℕ
+roomOf s c start = (length s - start) / c .width
+
+-- whether place p is stored: all are, or the active ones, or those without a child
+unfoldable pub isKept : List ℕ → Inside → ℕ → Bool
+isKept s w p = when (eqb (w .stored) 0) true (when (eqb (w .stored) 1) (maskBit s (w .value) p) (not (maskBit s (w .child) p)))
+
+-- a walk behind the places before p, k of which are stored
+abbrev pub standing : Inside → ℕ → ℕ → Inside
+standing w p k = record {
+  level = w .level;
+  origin = w .origin;
+  child = w .child;
+  value = w .value;
+  stored = w .stored;
+  start = w .start;
+  from = p;
+  number = k;
+}
+
+-- the record of the next place, if it is active
+unfoldable pub recordHere : List ℕ → Coding → Inside → Record
+recordHere s c w = record {
+  corner = globalOf (edgeOf (w .level)) (sideOf (w .level)) (w .origin) (index (w .from));
+  level = w .level;
+  value = storedValue s (c .width) (w .start + w .number * c .width);
+}
+
+-- What is handed out: records, where the walk stands behind them, and whether all that was needed lies in the file.
+pub record Handed : Type 0 where
+  pub records : List Record
+  pub inside : Inside
+  pub whole : Bool
+
+abbrev pub nothing : Inside → Handed
+nothing w = record { records = []; inside = w; whole = true }
+
+abbrev pub cutOff : Inside → Handed
+cutOff w = record { records = []; inside = w; whole = false }
+
+abbrev pub andThen : Record → Handed → Handed
+andThen r h = record { records = r ∷ h .records; inside = h .inside; whole = h .whole }
+
+-- one part, then another
+abbrev pub follow : Handed → Handed → Handed
+follow h g = record { records = h .records ++ g .records; inside = g .inside; whole = g .whole }
+
+-- Of the next j places: no more records than are wanted, and none once a value lies past the end. Where nothing is wanted the walk stays.
+unfoldable pub handOut : List ℕ → Coding → ℕ → Inside → ℕ → Handed
+handOut s c want w zero = nothing w
+handOut s c zero w (suc j) = nothing w
+handOut s c (suc want) w (suc j) =
+    when (maskBit s (w .value) (w .from))
+    (when (ltb (w .number) (roomOf s c (w .start)))
+    (andThen (recordHere s c w) (handOut s c want (standing w (suc (w .from)) (suc (w .number))) j))
+    (cutOff w))
+    (handOut s c (suc want) (standing w (suc (w .from)) (w .number + cond (isKept s w (w .from)) 1 0)) j)
+
+-- Whether words can be those of a walk in a piece: the masks lie in the file, the piece's origin is a multiple of its span, and no more stored
+-- places are passed than places.
+unfoldable pub isInside : List ℕ → Inside → Bool
+isInside s w =
+    leb (w .value + maskBytes (w .level)) (length s) && (leb (w .child + maskBytes (w .level)) (length s)
+    && (leb (w .number) (w .from) && aligned (edgeOf (w .level) * sideOf (w .level)) (w .origin)))
+
+-- of the places that are left of the piece
+unfoldable pub handPiece : List ℕ → Coding → ℕ → Inside → Handed
+handPiece s c want w =
+    when (leb (8 * maskBytes (w .level)) (w .from)) (nothing w)
+    (when (isInside s w) (handOut s c want w (8 * maskBytes (w .level) - w .from)) (cutOff w))
+
+-- how many of z places that are not active are stored, the child mask's bits from the first on being those of b
+unfoldable pub skipped : ℕ → ℕ → ℕ → ℕ
+skipped stored b z = when (eqb stored 0) z (when (eqb stored 1) 0 (z - countBelow (digit b) z))
+
+-- what the code's answer says, the slots from `slot` on being filled
+pub record Fills (slot : ℕ) (h : Handed) (before after : Slots) (r : Run) : Type 0 where
+  pub inside : r .inside ≡ h .inside
+  pub filled : r .filled ≡ slot + length (h .records)
+  pub whole : r .whole ≡ h .whole
+  pub slots : after ≡ laid before slot (h .records)
+
+-- What a reader of a piece's values asks: the table where the values are halves, a width of 2 or 4, how many values the file has room for, and an
+-- origin that is a multiple of the piece's span; and no more stored places are passed than places.
+pub record Readable (table s : List ℕ) (c : Coding) (room : ℕ) (w : Inside) : Type 0 where
+  pub subnormals : c .width ≡ 2 → isTable table
+  pub width : isWidth (c .width)
+  pub values : room ≡ roomOf s c (w .start)
+  pub multiple : aligned (edgeOf (w .level) * sideOf (w .level)) (w .origin) ≡ true
+  pub number : w .number ≤ w .from
+
+-- so many places of a word, and stored values, that no sum is lost
+pub record Few (b : Bits) : Type 0 where
+  pub word : b .left ≤ 64
+  pub places : b .inside .from + b .left ≤ 32768
+  pub number : b .inside .number ≤ b .inside .from
+
+-- b's lowest bits are those of the j places from p on, and it has no others
+pub record AreBits (f : ℕ → Bool) (p j b : ℕ) : Type 0 where
+  pub below : b < 2 ^ j
+  pub bits : (q : ℕ) → q < j → digit b q ≡ f (p + q)
+
+-- the places are the piece's, and have these bits in both masks
+pub record InWord (s : List ℕ) (b : Bits) : Type 0 where
+  pub word : b .left ≤ 64
+  pub places : b .inside .from + b .left ≤ places (edgeOf (b .inside .level))
+  pub value-bits : AreBits (maskBit s (b .inside .value)) (b .inside .from) (b .left) (b .value)
+  pub child-bits : AreBits (maskBit s (b .inside .child)) (b .inside .from) (b .left) (b .child)
+
+-- behind the next z places, none of which is active
+abbrev pub passed : Bits → ℕ → Inside
+passed b z = standing (b .inside) (b .inside .from + z) (b .inside .number + skipped (b .inside .stored) (b .child) z)
+
+abbrev pub shifted : Bits → ℕ → Bits
+shifted b z = record { inside = passed b z; left = b .left - z; value = b .value / 2 ^ z; child = b .child / 2 ^ z }
+
+-- behind the next place, which is active
+abbrev pub behind : Bits → Bits
+behind b = record { inside = standing (b .inside) (b .inside .from + 1) (b .inside .number + 1); left = b .left - 1; value = b .value / 2; child = b .child / 2 }
+
+abbrev pub handWord : List ℕ → Coding → ℕ → Bits → Handed
+handWord s c want b = handOut s c want (b .inside) (b .left)
+
+-- both masks of n bytes lie in the file, and have a bit for each place of the piece
+pub record Masks (s : List ℕ) (n : ℕ) (w : Inside) : Type 0 where
+  pub value : IsMask s (w .value) n
+  pub child : IsMask s (w .child) n
+  pub places : 8 * n ≡ places (edgeOf (w .level))

@@ -1,0 +1,358 @@
+// Document 01, section 7: the records of a piece, from where a walk stands in it, into five lent slices.
+ghost use mathlib.Core.Path.{_≡_};
+ghost use mathlib.Core.Bool.{true};
+ghost use Prim.Native.Nat.{_+_, _-_, _*_, _/_, _%_, _^_, _≤_, _<_};
+ghost use lib.ListN.{length};
+ghost use Rattle.coordinates.specs.Coordinates.{places, globalOf, aligned};
+ghost use Rattle.coordinates.specs.Inner.{Divides};
+ghost use Rattle.masks.specs.Masks.{maskBit, digit, countBelow};
+ghost use Rattle.half.specs.Inner.{isTable, isWidth};
+ghost use Rattle.tree.specs.Active.{sideOf, edgeOf, Record};
+ghost use lib.Count.{trailingZeros};
+ghost use Rattle.records.specs.Slots.{slotsOf, put, laid};
+ghost use Rattle.records.specs.Inner.{recordOf};
+ghost use Rattle.records.specs.Inner.{Readable, Few, InWord, Fills, passed, shifted, behind, handWord, handOut, Masks, Room, maskBytes, roomOf, isInside, handPiece, skipped};
+use coordinates::GlobalCoord;
+use coordinates::Index;
+use values::Coding;
+
+// Where a walk stands in a piece: the piece's level, its origin, where its masks stand, which of its places are stored (0: all, 1: the active
+// ones, else those without a child), where its stored values start; the first place that is not passed, and how many places before it are stored.
+pub struct Inside {
+    pub level: u32,
+    pub origin: GlobalCoord,
+    pub child: usize,
+    pub value: usize,
+    pub stored: u32,
+    pub start: usize,
+    pub from: u32,
+    pub number: usize,
+}
+
+// Where the walk stands when it stops, the first slot that it did not fill, and whether all that it needed lies in the file.
+pub struct Run {
+    pub inside: Inside,
+    pub filled: usize,
+    pub whole: bool,
+}
+
+// The bytes of a mask of a piece, by its level; there are three levels.
+fn mask_bytes(level: u32) -> usize
+    ensures { λ r. ⌜ (r ≡ maskBytes level) × (r % 8 ≡ 0) × (r ≤ 4096) ⌝ }
+{
+    match level {
+        0 => 64,
+        1 => 512,
+        2 => 4096,
+        _ => 0,
+    }
+}
+
+// The corner of a place. The sides and steps are constants here, so that no division is left.
+fn corner(level: u32, origin: GlobalCoord, p: Index) -> GlobalCoord
+    requires { ⌜ (p .0 < places (edgeOf level)) × (aligned (edgeOf level * sideOf level) origin ≡ true) ⌝ }
+    ensures { λ r. ⌜ r ≡ globalOf (edgeOf level) (sideOf level) origin p ⌝ }
+{
+    if level == 0 {
+        return coordinates::offset_to_global_coord(p, 8, 1, origin);
+    }
+    if level == 1 {
+        return coordinates::offset_to_global_coord(p, 16, 8, origin);
+    }
+    coordinates::offset_to_global_coord(p, 32, 128, origin)
+}
+
+// The ones among the lowest z bits.
+fn count_low(b: u64, z: u32) -> u32
+    requires { ⌜ (z ≤ 64) × (b < 2 ^ 64) ⌝ }
+    ensures { λ r. ⌜ (r ≡ countBelow (digit b) z) × (r ≤ z) ⌝ }
+{
+    if z == 64 {
+        return u64::count_ones(b);
+    }
+    u64::count_ones(masks::low_bits(b, z as usize))
+}
+
+// How many of the next z places are stored, none of them being active; b has their bits of the child mask.
+fn skip(stored: u32, b: u64, z: u32) -> usize
+    requires { ⌜ (z ≤ 64) × (b < 2 ^ 64) ⌝ }
+    ensures { λ r. ⌜ (r ≡ skipped stored b z) × (r ≤ z) ⌝ }
+{
+    match stored {
+        0 => z as usize,
+        1 => 0,
+        _ => (z - count_low(b, z)) as usize,
+    }
+}
+
+// One record.
+fn put_record(
+    i: usize,
+    o: GlobalCoord,
+    l: u32,
+    v: u32,
+    x: &mut [i32],
+    y: &mut [i32],
+    z: &mut [i32],
+    level: &mut [u32],
+    value: &mut [u32],
+)
+    requires { ⌜ Room (i + 1) (slotsOf (now x) (now y) (now z) (now level) (now value)) ⌝ }
+    ensures { λ r. ⌜ slotsOf (now (x .exit)) (now (y .exit)) (now (z .exit)) (now (level .exit)) (now (value .exit)) ≡ put (slotsOf (now (x .entry)) (now (y .entry)) (now (z .entry)) (now (level .entry)) (now (value .entry))) i (recordOf o l v) ⌝ }
+{
+    let ox = o.0;
+    let oy = o.1;
+    let oz = o.2;
+    x[i] = ox;
+    y[i] = oy;
+    z[i] = oz;
+    level[i] = l;
+    value[i] = v;
+}
+
+// The places of one mask word that are left, `left` of them: their bits of the value mask and of the child mask, the next place's lowest.
+pub struct Bits {
+    pub inside: Inside,
+    pub left: u32,
+    pub value: u64,
+    pub child: u64,
+}
+
+// The walk behind the next z places, none of which is active.
+fn pass(b: Bits, z: u32) -> Inside
+    requires { ⌜ (z ≤ b .left) × Few b ⌝ }
+    ensures { λ r. ⌜ r ≡ passed b z ⌝ }
+{
+    let mut w = b.inside;
+    w.number = w.number + skip(w.stored, b.child, z);
+    w.from = w.from + z;
+    w
+}
+
+// The word from its next active place on, of which there is one.
+fn to_active(b: Bits) -> Bits
+    requires { ⌜ Few b × (b .value < 2 ^ b .left) × (b .value ≡ 0 → ⊥) ⌝ }
+    ensures { λ r. ⌜ r ≡ shifted b (trailingZeros 64 (b .value)) ⌝ }
+{
+    let z = u64::trailing_zeros(b.value);
+    let inside = pass(b, z);
+    Bits {
+        inside,
+        left: b.left - z,
+        value: masks::high_bits(b.value, z as usize),
+        child: masks::high_bits(b.child, z as usize),
+    }
+}
+
+// The word behind its next place, which is active.
+fn past_active(b: Bits) -> Bits
+    requires { ⌜ Few b × (0 < b .left) ⌝ }
+    ensures { λ r. ⌜ r ≡ behind b ⌝ }
+{
+    let mut inside = b.inside;
+    inside.from = inside.from + 1;
+    inside.number = inside.number + 1;
+    Bits {
+        inside,
+        left: b.left - 1,
+        value: b.value / 2,
+        child: b.child / 2,
+    }
+}
+
+// The records of a word's places into the slots from `slot` on, no further than `limit`. A value is read only where its number is below `room`,
+// so that it lies in the file.
+fn fill_word(
+    table: &[u32],
+    s: &[u8],
+    c: Coding,
+    room: usize,
+    word: Bits,
+    slot: usize,
+    limit: usize,
+    x: &mut [i32],
+    y: &mut [i32],
+    z: &mut [i32],
+    level: &mut [u32],
+    value: &mut [u32],
+) -> Run
+    requires { ⌜ Readable (now table) (now s) c room (word .inside) × InWord (now s) word × Room limit (slotsOf (now x) (now y) (now z) (now level) (now value)) ⌝ }
+    ensures { λ r. ⌜ Fills slot (handWord (now (s .entry)) c (limit - slot) word) (slotsOf (now (x .entry)) (now (y .entry)) (now (z .entry)) (now (level .entry)) (now (value .entry))) (slotsOf (now (x .exit)) (now (y .exit)) (now (z .exit)) (now (level .exit)) (now (value .exit))) r ⌝ }
+{
+    let mut b = word;
+    let mut i = slot;
+    let mut whole = true;
+    while i < limit {
+        if b.value == 0 {
+            let w = pass(b, b.left);
+            b.inside = w;
+            break;
+        }
+        b = to_active(b);
+        let w = b.inside;
+        if room <= w.number {
+            whole = false;
+            break;
+        }
+        let v = values::stored_with(table, s, c, w.start, w.number);
+        put_record(
+            i,
+            corner(w.level, w.origin, Index(w.from)),
+            w.level,
+            v,
+            x,
+            y,
+            z,
+            level,
+            value,
+        );
+        b = past_active(b);
+        i = i + 1;
+    }
+    let inside = b.inside;
+    Run {
+        inside,
+        filled: i,
+        whole,
+    }
+}
+
+// The word that the next place is in, from that place on; the masks have n bytes.
+fn word_at(s: &[u8], n: usize, w: Inside) -> Bits
+    requires { ⌜ Masks (now s) n w × (w .from < 8 * n) ⌝ }
+    ensures { λ r. ⌜ InWord (now (s .entry)) r × (r .inside ≡ w) × (r .left ≡ 64 - w .from % 64) ⌝ }
+{
+    let at = w.from as usize;
+    let i = at / 64 * 8;
+    let r = at % 64;
+    Bits {
+        inside: w,
+        left: 64 - w.from % 64,
+        value: masks::high_bits(masks::word(s, w.value, n, i), r),
+        child: masks::high_bits(masks::word(s, w.child, n, i), r),
+    }
+}
+
+// The records of the places that are left of a piece with masks of n bytes, word by word.
+fn fill_words(
+    table: &[u32],
+    s: &[u8],
+    c: Coding,
+    room: usize,
+    n: usize,
+    w: Inside,
+    slot: usize,
+    limit: usize,
+    x: &mut [i32],
+    y: &mut [i32],
+    z: &mut [i32],
+    level: &mut [u32],
+    value: &mut [u32],
+) -> Run
+    requires { ⌜ Readable (now table) (now s) c room w × Masks (now s) n w × (w .from < 8 * n) × Room limit (slotsOf (now x) (now y) (now z) (now level) (now value)) ⌝ }
+    ensures { λ r. ⌜ Fills slot (handOut (now (s .entry)) c (limit - slot) w (8 * n - w .from)) (slotsOf (now (x .entry)) (now (y .entry)) (now (z .entry)) (now (level .entry)) (now (value .entry))) (slotsOf (now (x .exit)) (now (y .exit)) (now (z .exit)) (now (level .exit)) (now (value .exit))) r ⌝ }
+{
+    let mut t = Run {
+        inside: w,
+        filled: slot,
+        whole: true,
+    };
+    let mut i = w.from as usize / 64 * 8;
+    while i < n {
+        if limit <= t.filled {
+            break;
+        }
+        let inside = t.inside;
+        t = fill_word(
+            table,
+            s,
+            c,
+            room,
+            word_at(s, n, inside),
+            t.filled,
+            limit,
+            x,
+            y,
+            z,
+            level,
+            value,
+        );
+        if !t.whole {
+            break;
+        }
+        i = i + 8;
+    }
+    t
+}
+
+// How many voxels long a piece's cube is, by its level.
+fn span(level: u32) -> u32
+    requires { ⌜ level < 3 ⌝ }
+    ensures { λ r. ⌜ (r ≡ edgeOf level * sideOf level) × Divides r ⌝ }
+{
+    if level == 0 {
+        return 8;
+    }
+    if level == 1 {
+        return 128;
+    }
+    4096
+}
+
+// Whether words can be those of a walk in a piece, whose masks have n bytes.
+fn is_inside(s: &[u8], n: usize, w: Inside) -> bool
+    requires { ⌜ (n ≡ maskBytes (w .level)) × (w .level < 3) ⌝ }
+    ensures { λ r. ⌜ r ≡ isInside (now (s .entry)) w ⌝ }
+{
+    let origin = w.origin;
+    if s.len() < n {
+        return false;
+    }
+    if s.len() - n < w.value {
+        return false;
+    }
+    if s.len() - n < w.child {
+        return false;
+    }
+    if (w.from as usize) < w.number {
+        return false;
+    }
+    coordinates::is_aligned(origin, span(w.level))
+}
+
+// The records of the places that are left of a piece into the slots from `slot` on, no further than `limit`. Words that are no walk's in a piece
+// of this file are not read by: nothing is handed out, and the answer says that something is not in the file.
+pub fn fill_piece(
+    table: &[u32],
+    s: &[u8],
+    c: Coding,
+    w: Inside,
+    slot: usize,
+    limit: usize,
+    x: &mut [i32],
+    y: &mut [i32],
+    z: &mut [i32],
+    level: &mut [u32],
+    value: &mut [u32],
+) -> Run
+    requires { ⌜ (c .width ≡ 2 → isTable (now table)) × isWidth (c .width) × Room limit (slotsOf (now x) (now y) (now z) (now level) (now value)) ⌝ }
+    ensures { λ r. ⌜ Fills slot (handPiece (now (s .entry)) c (limit - slot) w) (slotsOf (now (x .entry)) (now (y .entry)) (now (z .entry)) (now (level .entry)) (now (value .entry))) (slotsOf (now (x .exit)) (now (y .exit)) (now (z .exit)) (now (level .exit)) (now (value .exit))) r ⌝ }
+{
+    let n = mask_bytes(w.level);
+    if 8 * n as u32 <= w.from {
+        return Run {
+            inside: w,
+            filled: slot,
+            whole: true,
+        };
+    }
+    if !is_inside(s, n, w) {
+        return Run {
+            inside: w,
+            filled: slot,
+            whole: false,
+        };
+    }
+    let room = fields::remaining(s, w.start) / c.width;
+    fill_words(table, s, c, room, n, w, slot, limit, x, y, z, level, value)
+}

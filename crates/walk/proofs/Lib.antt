@@ -1,0 +1,4 @@
+pub mod Past
+pub mod Reached
+pub mod Laws
+pub mod Demand3
