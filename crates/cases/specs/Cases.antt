@@ -68,8 +68,8 @@ front block end = row
 abbrev pub oneChild : ℕ → ℕ → List ℕ → List ℕ → List ℕ
 oneChild n p value stored = row (lone n p ∷ value ∷ le 1 0 ∷ stored ∷ [])
 
--- The whole file: its root's origin, its 5-node, the 4-node in that, and of the leaf in this the one place p and the value v there, for which the
--- block has the node byte 0.
+-- The whole file: the root's origin, its 5-node, the 4-node in that, the leaf in this with the one active place p, and its block with the node byte 0
+-- and the value v.
 unfoldable pub cloud : ℕ → ℕ → List ℕ → List ℕ → List ℕ → ℕ → ℕ → List ℕ
 unfolding front
 cloud block end origin node5 node4 p v = row (front block end ∷ origin ∷ node5 ∷ node4 ∷ lone 64 p ∷ lone 64 p ∷ le 1 0 ∷ le 4 v ∷ [])
@@ -92,7 +92,7 @@ lastVoxel = cloud 9568 9637
     (oneChild 512 4095 (zeros 512) [])
     511 0x3f800000
 
--- the same with a root at origin 0, in each node and in the leaf the first place, an active place 3 in the 4-node and an active place 1057 in the 5-node
+-- the same with a root at origin 0 and, in each node and in the leaf, the first place; the 5-node has an active place too, 1057, and so has the 4-node, 3
 unfoldable pub tiles : List ℕ
 unfolding cloud
 tiles = cloud 9576 9645
@@ -113,9 +113,9 @@ selected = row
     ((0x24 ∷ 0x02 ∷ zeros 62) ∷ le 1 5 ∷ le 4 0xbf800000 ∷ le 4 0xc0000000 ∷ lone 64 4
     ∷ le 4 0x3f800000 ∷ le 4 0x40000000 ∷ le 4 0x40400000 ∷ [])
 
--- a 4-node of version 220: children 0 and 2, no active place, 4,094 stored values, of which the first three are not zero
+-- a 4-node of version 220: children 0 and 2, no active place, 4,094 stored values, of which the first four are not zero
 abbrev pub twoChildren : List ℕ
-twoChildren = row ((0x05 ∷ zeros 511) ∷ zeros 512 ∷ le 4 0x3f800000 ∷ le 4 0x40000000 ∷ le 4 0x40400000 ∷ zeros 16364 ∷ [])
+twoChildren = row ((0x05 ∷ zeros 511) ∷ zeros 512 ∷ le 4 0x3f800000 ∷ le 4 0x40000000 ∷ le 4 0x40400000 ∷ le 4 0x40800000 ∷ zeros 16360 ∷ [])
 
 -- a leaf's block: ones 0 to 4, node byte 0, five stored halves
 abbrev pub halves : List ℕ
@@ -131,20 +131,20 @@ abbrev pub zeroMap : Map
 zeroMap = M.UniformScaleMap
     (record { «scale_values» = zeroVec; «voxel_size» = zeroVec; «scale_values_inverse» = zeroVec; «inv_scale_sqr» = zeroVec; «inv_twice_scale» = zeroVec })
 
--- what opening a file's grid hands out, where that is the zero map, the zero background and this active list
-abbrev pub handedOut : List ℕ → Grid → List Record → OpenedGrid
-handedOut s g list = record { transform = zeroMap; «transform_end» = 258; background = 0; «active_count» = length list; place = placeAfter s g 0 }
+-- what opening hands out, where the transform is the zero map and ends at 258, and the background is zero
+abbrev pub openedWith : List ℕ → Grid → List Record → OpenedGrid
+openedWith s g list = record { transform = zeroMap; «transform_end» = 258; background = 0; «active_count» = length list; place = placeAfter s g 0 }
 
--- The file's grid is found by its name, "d", and by its number, 0; its active list is this; and opening it so hands this out.
+-- The file's grid is found by its name, "d", and by its number, 0; it has this active list; and opening it, either way, hands this out.
 pub record Opens (s : List ℕ) (list : List Record) : Type 0 where
   pub found : Grid
   pub named : gives found ≡ grid s A.ByName (ascii "d")
   pub numbered : gives found ≡ grid s (A.ByNumber 0) []
   pub active : activeOf s found ≡ list
-  pub opened-named : gives (handedOut s found list) ≡ openGridNamed s (ascii "d")
-  pub opened-numbered : gives (handedOut s found list) ≡ openGridNumbered s 0
+  pub opened-named : gives (openedWith s found list) ≡ openGridNamed s (ascii "d")
+  pub opened-numbered : gives (openedWith s found list) ≡ openGridNumbered s 0
 
--- The leaf whose block starts at 0 has these values from place p on.
+-- The leaf whose block starts at 0, its mask being the topology's too, has these values from place p on.
 pub record InLeaf (s : List ℕ) (c : Coding) (p : ℕ) (values : List ℕ) : Type 0 where
   pub block : Block
   pub end : ℕ
