@@ -21,7 +21,7 @@ use Rattle.archive.specs.Archive.{repeated, descriptors, file}
 use Rattle.transform.specs.Transform.{mapKind, mapKindField, scaleField, mapField, transform}
 use Rattle.grid.specs.Grid.{isFloatTree}
 use Rattle.cases.specs.Cases.{caseA, lastVoxel, tiles, Cases}
-use Rattle.cases.proofs.Cloud.{IsCloud, opens, fills, lone-active, tiles-active}
+use Rattle.cases.proofs.Cloud.{listed, filled, IsCloud, opens, fills}
 use Rattle.cases.proofs.Laws.{passed}
 
 -- ---- the three files
@@ -59,12 +59,12 @@ unfolding
 reads-values = tt
 
 pub cases : Cases
-unfolding caseA lastVoxel tiles globalOf localOf reads-values
+unfolding caseA lastVoxel tiles globalOf localOf listed filled reads-values
 cases = record {
-  caseA-opens = opens caseA-is (lone-active caseA-is);
+  caseA-opens = opens caseA-is;
   caseA-fills = fills caseA-is;
-  tiles-open = opens tiles-is (tiles-active tiles-is);
-  last-opens = opens lastVoxel-is (lone-active lastVoxel-is);
+  tiles-open = opens tiles-is;
+  last-opens = opens lastVoxel-is;
   ones-259 = record { block = _; end = _; read = refl; holds = refl };
   form-5 = record { block = _; end = _; read = refl; holds = refl };
   version-220 = record { node = _; end = _; read = refl; holds = refl };

@@ -1,10 +1,9 @@
 -- Laws for section 9: files of version 224 with flag 0x2 and node bytes 0, whose tree has one root, one 4-node and one leaf. What the definitions
 -- say of such a file follows from a few facts of its bytes, which `IsCloud` lists and which are then computed.
 use mathlib.Core.Path.{_≡_, refl, sym, ap, _∙_}
-use mathlib.Core.Bool.{true, false, not}
-use mathlib.Core.List.{List, [], _∷_, _++_}
-use Prim.Native.Nat.{ℕ, zero, suc, _+_, _-_, _*_, _≤_, _<_}
-use native.Mathlib.Nat.{zero-add, add-zero, suc-add, add-suc}
+use mathlib.Core.Bool.{Bool, true, false, not}
+use mathlib.Core.List.{List, [], _∷_, _++_, map}
+use Prim.Native.Nat.{ℕ, zero, suc, _+_, _*_, _≤_, _<_}
 use native.Mathlib.Omega.{arith}
 use lib.ListN.{length}
 use Rattle.fields.specs.Le.{byteAt, u32At}
@@ -13,7 +12,8 @@ use Rattle.fields.specs.Fields.{sameBytes, ascii}
 use Rattle.fields.proofs.Laws.{then-got, check-passes, field-whole, when-true}
 use Rattle.coordinates.specs.Coordinates.{index, places, globalOf}
 use Rattle.coordinates.specs.declared.GlobalCoord.{GlobalCoord}
-use Rattle.masks.specs.Masks.{maskBit, ones, countBelow}
+use Rattle.masks.specs.Masks.{maskBit, consIf, onesFrom, ones, countBelow}
+use Rattle.masks.proofs.Laws.{ones-none, count-suc-one, count-suc-zero}
 use Rattle.half.specs.Half.{storedValue}
 use Rattle.values.specs.Values.{formField, formSelected, inactiveField, selectionField, inactivesField, storedBy, headField, isStored}
 use Rattle.values.specs.Values.{runField, valuesField, isSelected, inactiveValue, placeValue, valuesFrom}
@@ -22,7 +22,6 @@ use Rattle.values.specs.declared.Stored.{Stored}
 use Rattle.values.specs.declared.Stored.the-variants.{Every, Active, Childless}
 use Rattle.values.specs.declared.Selection.the-variants.{Nothing}
 use Rattle.values.specs.declared.Values.{Values}
-use Rattle.values.proofs.Laws.{stored-place, other-place}
 use Rattle.nodes.specs.Nodes.{nodeField, oldField, blockField}
 use Rattle.nodes.specs.declared.NodeHeader.{NodeHeader}
 use Rattle.nodes.specs.declared.Leaf.{Leaf}
@@ -31,7 +30,7 @@ use Rattle.roots.specs.Roots.{treeHeadField, originField}
 use Rattle.roots.specs.declared.TreeHead.{TreeHead}
 use Rattle.tree.specs.Topology.{Node4, Node5, leafField, node4Field, childField, node5Field, rootField, rootsField, topology}
 use Rattle.tree.specs.Blocks.{filled4, filled5, blocksField}
-use Rattle.tree.specs.Active.{Record, Piece, piece4, piece5, edgeOf, sideOf, joined, pieces4, pieces5, pieces, recordAt, recordsOf, allBlocks}
+use Rattle.tree.specs.Active.{Record, Piece, edgeOf, sideOf, joined, pieces4, pieces5, pieces, recordAt, recordsOf, allBlocks}
 use Rattle.tree.specs.Inner.{kept}
 use Rattle.metadata.specs.Metadata.{latest}
 use Rattle.header.specs.Header.{header}
@@ -45,8 +44,8 @@ use Rattle.archive.specs.declared.Asked.the-variants as A
 use Rattle.archive.proofs.Laws.{with-gives, answer-got}
 use Rattle.transform.specs.Transform.{transform}
 use Rattle.grid.specs.Grid.{Grid, isFloatTree, isPacked, widthOf, contentField, gridField, grid, activeOf, openGrid, presentLeaf, fillLeaf, fillLeafNamed}
-use Rattle.cases.specs.Cases.{zeros, coded, zeroMap, openedWith, Opens}
-use Rattle.cases.proofs.Laws.{part, passed, mask-ones, parts-agree, no-overlap, lone-below, lone-is, lone-other, lone-first}
+use Rattle.cases.specs.Cases.{coded, zeroMap, openedWith, Opens}
+use Rattle.cases.proofs.Laws.{part, passed, bit-part, mask-ones, parts-agree, no-overlap}
 
 -- ---- a file with flag 0x2, node bytes 0 and values of four bytes
 
@@ -61,12 +60,6 @@ run at = record { stored = Active; inactives = record { first = 0; second = 0; s
 abbrev pub node : ℕ → ℕ → NodeHeader
 node n at = record { child = at; value = at + n; values = run (at + n + n + 1) }
 
-values-append :
-    (s : List ℕ) (c : Coding) (child value : ℕ) (v : Values) (j p k : ℕ) → valuesFrom s c child value v p (j + k) ≡ valuesFrom s c child value v p j ++ valuesFrom s c child value v (p + j) k
-unfolding valuesFrom
-values-append s c child value v zero p k = rw (zero-add, add-zero)
-values-append s c child value v (suc j) p k = rw (suc-add, values-append s c child value v j (suc p) k, add-suc, suc-add)
-
 -- What a node's bytes say, its masks of n bytes standing at a position: its children, its active places, that no place is both, the node byte 0.
 abbrev pub IsNode : List ℕ → ℕ → ℕ → List ℕ → List ℕ → Type 0
 IsNode s n at children actives =
@@ -77,6 +70,7 @@ abbrev pub IsBlock : List ℕ → ℕ → ℕ → List ℕ → Type 0
 IsBlock s mask at actives = (part s at 64 ≡ part s mask 64) × (passed 0 (part s at 64) ≡ actives) × (byteAt s (at + 64) ≡ 0)
 
 module _ (s : List ℕ) where
+  -- Such values, nodes and blocks are read, and the masks have the ones that their bytes say.
   values-read :
       (old : Stored) (n child value at : ℕ) {l : List ℕ} → ones (maskBit s value) (8 * n) ≡ l → byteAt s at ≡ 0 → at + 1 + length l * 4 ≤ length s →
       got (run (at + 1)) (at + 1 + length l * 4) ≡ valuesField s coding old n child value at
@@ -113,46 +107,76 @@ module _ (s : List ℕ) where
         (then-got _ refl
         (then-got _ (values-read Every 64 at at (at + 64) voxels-are (f .2) whole) refl)))
 
-  -- The one active place of a mask holds the first stored value, every other place zero.
-  module _ (n child value at p : ℕ) (e : ones (maskBit s value) n ≡ p ∷ []) where
-    lone-value : placeValue s coding child value (run at) p ≡ u32At s at
-    unfolding storedValue isStored
-    lone-value =
-        let z : at + countBelow (maskBit s value) p * 4 ≡ at = omega (arith, lone-first (maskBit s value) n p e) in
-        stored-place coding s child value (run at) p (lone-is (maskBit s value) n p e) ∙ ap (storedValue s 4) z
+  -- The records of a piece with these active places, and the values of k places from p on where g says which are active: the stored values stand in a
+  -- row, the next one at x.
+  unfoldable pub listed : ℕ → GlobalCoord → ℕ → List ℕ → List Record
+  listed level origin x [] = []
+  listed level origin x (p ∷ l) =
+      record { corner = globalOf (edgeOf level) (sideOf level) origin (index p); level = level; value = u32At s x } ∷ listed level origin (x + 4) l
 
-    other-value : (q : ℕ) → q < n → (q ≡ p → ⊥) → placeValue s coding child value (run at) q ≡ 0
-    unfolding inactiveValue isSelected isStored when
-    other-value q h d = other-place coding s child value (run at) q (lone-other (maskBit s value) n p e q h d)
+  unfoldable pub filled : (ℕ → Bool) → ℕ → ℕ → ℕ → List ℕ
+  filled g x p zero = []
+  filled g x p (suc k) = elim (g p) [ true ↦ u32At s x ∷ filled g (x + 4) (suc p) k | false ↦ 0 ∷ filled g x (suc p) k ]
 
-    -- so the values of all n places, of which k from q on have no active one
-    other-values : (k q : ℕ) → q + k ≤ n → ((i : ℕ) → q ≤ i → i < q + k → i ≡ p → ⊥) → valuesFrom s coding child value (run at) q k ≡ zeros k
-    unfolding valuesFrom
-    other-values zero q h d = refl
-    other-values (suc k) q h d =
-        rw (other-value q (omega arith) (d q (omega arith) (omega arith)), other-values k (suc q) (omega arith) (λ i x y. d i (omega arith) (omega arith)))
+  -- The definitions number a stored value by the ones below its place; going from place to place, that is the next value of the row.
+  module _ (child value at : ℕ) where
+    -- x is where the stored value of place p stands, or that of the next active place
+    abbrev Next : ℕ → ℕ → Type 0
+    Next p x = x ≡ at + countBelow (maskBit s value) p * 4
 
-    lone-values : valuesFrom s coding child value (run at) 0 n ≡ zeros p ++ u32At s at ∷ zeros (n - suc p)
-    unfolding valuesFrom
-    lone-values =
-        let l = lone-below (maskBit s value) n p e in
-        let k : n ≡ p + suc (n - suc p) = omega arith in
-        let z : 0 + p ≡ p = omega arith in
-        ap (valuesFrom s coding child value (run at) 0) k
-        ∙ values-append s coding child value (run at) p 0 (suc (n - suc p))
-        ∙ rw (z, other-values p 0 (omega arith) (λ i x y w. omega arith), lone-value, other-values (n - suc p) (suc p) (omega arith) (λ i x y w. omega arith))
+    first : Next 0 at
+    first = omega (arith, ap length (ones-none (maskBit s value) 0))
 
-  -- the records of a piece with one active place, and with none
-  lone-records :
-      (level : ℕ) (origin : GlobalCoord) (child value at : ℕ) {p : ℕ} → ones (maskBit s value) (places (edgeOf level)) ≡ p ∷ [] →
-      recordsOf s coding (record { level = level; origin = origin; child = child; value = value; values = run at })
-      ≡ record { corner = globalOf (edgeOf level) (sideOf level) origin (index p); level = level; value = u32At s at } ∷ []
-  unfolding recordsOf recordAt
-  lone-records level origin child value at e = rw (e, lone-value _ child value at _ e)
+    module _ (p x : ℕ) (h : Next p x) where
+      one-next : maskBit s value p ≡ true → Next (suc p) (x + 4)
+      one-next e = omega (arith, count-suc-one (maskBit s value) p e)
 
-  no-records : (q : Piece) → ones (maskBit s (q .value)) (places (edgeOf (q .level))) ≡ [] → recordsOf s coding q ≡ []
-  unfolding recordsOf
-  no-records q e = rw e
+      zero-next : maskBit s value p ≡ false → Next (suc p) x
+      zero-next e = omega (arith, count-suc-zero (maskBit s value) p e)
+
+      one-value : maskBit s value p ≡ true → placeValue s coding child value (run at) p ≡ u32At s x
+      unfolding placeValue isStored storedValue when
+      one-value e = rw (e, h)
+
+      zero-value : maskBit s value p ≡ false → placeValue s coding child value (run at) p ≡ 0
+      unfolding placeValue isStored isSelected inactiveValue when
+      zero-value e = rw e
+
+    module _ (level : ℕ) (origin : GlobalCoord) where
+      abbrev piece : Piece
+      piece = record { level = level; origin = origin; child = child; value = value; values = run at }
+
+      records-from : (k p x : ℕ) → Next p x → map (recordAt s coding piece) (onesFrom (maskBit s value) p k) ≡ listed level origin x (onesFrom (maskBit s value) p k)
+      unfolding onesFrom listed recordAt
+      records-from zero p x h = refl
+      records-from (suc k) p x h = go (records-from k (suc p)) (maskBit s value p) refl
+        where
+          rest : List ℕ
+          rest = onesFrom (maskBit s value) (suc p) k
+
+          go : ((y : ℕ) → Next (suc p) y → map (recordAt s coding piece) rest ≡ listed level origin y rest) → (b : Bool) → maskBit s value p ≡ b →
+              map (recordAt s coding piece) (consIf b p rest) ≡ listed level origin x (consIf b p rest)
+          go more true e = rw (one-value p x h e, more (x + 4) (one-next p x h e))
+          go more false e = more x (zero-next p x h e)
+
+      records-are : {l : List ℕ} → ones (maskBit s value) (places (edgeOf level)) ≡ l → recordsOf s coding piece ≡ listed level origin at l
+      unfolding recordsOf
+      records-are e = records-from (places (edgeOf level)) 0 at first ∙ ap (listed level origin at) e
+
+    values-from :
+        (g : ℕ → Bool) (k p x : ℕ) → ((q : ℕ) → p ≤ q → q < p + k → maskBit s value q ≡ g q) → Next p x →
+        valuesFrom s coding child value (run at) p k ≡ filled g x p k
+    unfolding valuesFrom filled
+    values-from g zero p x same h = refl
+    values-from g (suc k) p x same h = go (λ y. values-from g k (suc p) y (λ q a b. same q (omega arith) (omega arith))) (g p) refl
+      where
+        here : maskBit s value p ≡ g p
+        here = same p (omega arith) (omega arith)
+
+        go : ((y : ℕ) → Next (suc p) y → valuesFrom s coding child value (run at) (suc p) k ≡ filled g y (suc p) k) → (b : Bool) → g p ≡ b →
+            valuesFrom s coding child value (run at) p (suc k) ≡ filled g x p (suc k)
+        go more true e = rw (e, filled, one-value p x h (here ∙ e), more (x + 4) (one-next p x h (here ∙ e)))
+        go more false e = rw (e, filled, zero-value p x h (here ∙ e), more x (zero-next p x h (here ∙ e)))
 
 -- one parse after another for a list with one member
 many-one : {A B : Type 0} (f : A → ℕ → Parse B) {l : List A} {at : ℕ} {a : A} {b : B} {n : ℕ} → l ≡ a ∷ [] → got b n ≡ f a at → got (b ∷ []) n ≡ many f l at
@@ -255,6 +279,7 @@ module _ {s : List ℕ} {o : GlobalCoord} {p5 : ℕ} {v5 : List ℕ} {p4 : ℕ} 
   actives3 : ones (maskBit s (at3 v5 v4 + 64)) 512 ≡ p3 ∷ []
   actives3 = voxels-are s leaf (at3 v5 v4 + 64) (f .block-is) (omega arith)
 
+  -- the tree, its blocks, the grid
   leaf-read : got leaf (at3 v5 v4 + 64) ≡ leafField s (node4 .origin) p4 (at3 v5 v4)
   unfolding leafField
   leaf-read = then-got _ (field-whole s (at3 v5 v4) 64 _ _ (omega arith) refl) refl
@@ -287,40 +312,34 @@ module _ {s : List ℕ} {o : GlobalCoord} {p5 : ℕ} {v5 : List ℕ} {p4 : ℕ} 
       (with-gives _ (ap present (when-true _ (sym h) refl))
       (answer-got (check-passes 12 (sym (f .front-is .3)) content-read)))
 
-  active :
-      activeOf s found
-      ≡ record { corner = globalOf 8 1 (leaf .origin) (index p3); level = 0; value = u32At s (at3 v5 v4 + 64 + 64 + 1) }
-      ∷ (recordsOf s coding (piece4 node4) ++ (recordsOf s coding (piece5 node5) ++ []))
+  -- its active list: the leaf's record, the 4-node's, the 5-node's
+  abbrev pub list : List Record
+  list =
+      listed s 0 (leaf .origin) (at3 v5 v4 + 64 + 64 + 1) (p3 ∷ [])
+      ++ (listed s 1 (node4 .origin) (at4 v5 + 512 + 512 + 1) v4 ++ (listed s 2 o 8479 v5 ++ []))
+
+  active : activeOf s found ≡ list
   unfolding joined pieces pieces5 pieces4
-  active = rw (lone-records s 0 (leaf .origin) (at3 v5 v4 + 64) (at3 v5 v4 + 64) (at3 v5 v4 + 64 + 64 + 1) actives3)
+  active =
+      rw (
+        records-are s (at3 v5 v4 + 64) (at3 v5 v4 + 64) (at3 v5 v4 + 64 + 64 + 1) 0 (leaf .origin) actives3,
+        records-are s (at4 v5) (at4 v5 + 512) (at4 v5 + 512 + 512 + 1) 1 (node4 .origin) actives4,
+        records-are s 286 4382 8479 2 o actives5,
+      )
 
   -- opening it, by name and by number
-  pub opens : {list : List Record} → activeOf s found ≡ list → Opens s list
+  pub opens : Opens s list
   unfolding openGrid isAsked
-  opens {list} a =
+  opens =
       let named = opened A.ByName (ascii "d") (f .front-is .2) in
       let numbered = opened (A.ByNumber 0) [] refl in
-      let handed = ap (λ (l : List Record). gives (openedWith s found l)) (sym a) in
-      record { found = found; named = named; numbered = numbered; active = a; opened-named = with-gives _ named handed; opened-numbered = with-gives _ numbered handed }
+      let handed = ap (λ (l : List Record). gives (openedWith s found l)) (sym active) in
+      record { found = found; named = named; numbered = numbered; active = active; opened-named = with-gives _ named handed; opened-numbered = with-gives _ numbered handed }
 
   -- its leaf, filled
-  pub fills : gives (zeros p3 ++ u32At s (at3 v5 v4 + 64 + 64 + 1) ∷ zeros (512 - suc p3)) ≡ fillLeafNamed s (ascii "d") 0 512
+  pub fills : gives (filled s (maskBit (part s (at3 v5 v4 + 64) 64) 0) (at3 v5 v4 + 64 + 64 + 1) 0 512) ≡ fillLeafNamed s (ascii "d") 0 512
   unfolding fillLeaf presentLeaf allBlocks joined when isAsked
   fills =
-      with-gives _ (opened A.ByName (ascii "d") (f .front-is .2))
-      (with-gives _ refl (ap gives (sym (lone-values s 512 (at3 v5 v4 + 64) (at3 v5 v4 + 64) (at3 v5 v4 + 64 + 64 + 1) p3 actives3))))
-
--- the active list without tiles, and with one in each node
-module _ {s : List ℕ} {o : GlobalCoord} {p5 p4 p3 : ℕ} where
-  pub lone-active : (f : IsCloud s o p5 [] p4 [] p3) → activeOf s (found f) ≡ record { corner = globalOf 8 1 (leaf f .origin) (index p3); level = 0; value = u32At s 9633 } ∷ []
-  lone-active f = active f ∙ rw (no-records s (piece4 (node4 f)) (actives4 f), no-records s (piece5 (node5 f)) (actives5 f))
-
-  pub tiles-active :
-      {q5 q4 : ℕ} (f : IsCloud s o p5 (q5 ∷ []) p4 (q4 ∷ []) p3) →
-      activeOf s (found f)
-      ≡ record { corner = globalOf 8 1 (leaf f .origin) (index p3); level = 0; value = u32At s 9641 }
-      ∷ record { corner = globalOf 16 8 (node4 f .origin) (index q4); level = 1; value = u32At s 9508 }
-      ∷ record { corner = globalOf 32 128 o (index q5); level = 2; value = u32At s 8479 }
-      ∷ []
-  tiles-active f =
-      active f ∙ rw (lone-records s 1 (node4 f .origin) 8483 8995 9508 (actives4 f), lone-records s 2 o 286 4382 8479 (actives5 f))
+      let m = at3 v5 v4 + 64 in
+      let v = values-from s m m (m + 64 + 1) (maskBit (part s m 64) 0) 512 0 (m + 64 + 1) (λ q a b. bit-part s m 64 q (omega arith)) (first s m m (m + 64 + 1)) in
+      with-gives _ (opened A.ByName (ascii "d") (f .front-is .2)) (with-gives _ refl (ap gives (sym v)))

@@ -2,14 +2,14 @@
 -- to compute; by these laws a file's masks are computed in as many steps as they have bits.
 use mathlib.Core.Path.{_≡_, refl, sym, ap, _∙_}
 use mathlib.Core.Bool.{Bool, true, false, _&&_}
-use mathlib.Core.List.{List, [], _∷_, _++_, List·Memᴰ·head, List·Memᴰ·eq-of-singleton}
+use mathlib.Core.List.{List, [], _∷_, _++_}
 use Prim.Native.Nat.{ℕ, zero, suc, _+_, _-_, _*_, _/_, _%_, _≤_, _<_}
 use native.Mathlib.Omega.{arith}
 use lib.ListN.{length, take, drop, length-take, length-drop}
 use lib.Seq.{getD-take, getD-drop}
 use Rattle.fields.specs.Parse.{when}
-use Rattle.masks.specs.Masks.{digit, maskBit, consIf, onesFrom, ones, countBelow, overlap, agree}
-use Rattle.masks.proofs.Laws.{Among, ones-none, ones-nil, ones-append, ones-ext, ones-mem, agree-true}
+use Rattle.masks.specs.Masks.{digit, maskBit, consIf, onesFrom, ones, overlap, agree}
+use Rattle.masks.proofs.Laws.{ones-none, ones-append, ones-ext, agree-true}
 use Rattle.tree.specs.Inner.{kept}
 
 -- n bytes of a file
@@ -80,24 +80,3 @@ ones-kept f g (suc k) p = rw (ones-kept f g k (suc p)) (consIf-kept (f p) g p (o
 
 pub no-overlap : (f g : ℕ → Bool) (n : ℕ) (l : List ℕ) → ones f n ≡ l → kept g l ≡ [] → overlap f g n ≡ false
 no-overlap f g n l e h = rw (ones-kept f g n 0, e, h)
-
--- A mask with one one: no other place is one, and no one stands below it.
-module _ (f : ℕ → Bool) (n p : ℕ) (e : ones f n ≡ p ∷ []) where
-  among : Among f 0 n p
-  among = ones-mem f 0 n p .0 (rw e (List·Memᴰ·head refl))
-
-  pub lone-below : p < n
-  lone-below = omega (arith, among .1)
-
-  pub lone-is : f p ≡ true
-  lone-is = among .2
-
-  pub lone-other : (q : ℕ) → q < n → (q ≡ p → ⊥) → f q ≡ false
-  lone-other q h d = go (f q) refl
-    where
-      go : (b : Bool) → f q ≡ b → b ≡ false
-      go true t = absurd (d (List·Memᴰ·eq-of-singleton (rw e at (ones-mem f 0 n q .1 (omega arith, omega arith, t)))))
-      go false t = refl
-
-  pub lone-first : countBelow f p ≡ 0
-  lone-first = ap length (ones-nil f p 0 (λ q x y. lone-other q (omega (arith, lone-below)) (λ d. omega arith)))
