@@ -1,0 +1,96 @@
+"""The text that every dumper prints (README.md): its lines in Python, and two such texts compared."""
+import struct
+
+MAPS = {'UniformScaleMap': 'UniformScaleMap', 'ScaleMap': 'UniformScaleMap',
+        'UniformScaleTranslateMap': 'ScaleTranslateMap', 'ScaleTranslateMap': 'ScaleTranslateMap'}
+NO_ANSWER = 'error:', 'panic:', 'refused'
+
+
+def quoted(data):
+    def shown(byte):
+        if byte in b'"\\':
+            return '\\' + chr(byte)
+        return chr(byte) if 32 <= byte <= 126 else '\\x%02x' % byte
+    return '"%s"' % ''.join(map(shown, data))
+
+
+def digest(patterns):
+    """FNV-1a, 64 bits, over the values' bytes, low byte first."""
+    found = 0xcbf29ce484222325
+    for byte in struct.pack('<%dI' % len(patterns), *patterns):
+        found = (found ^ byte) * 0x100000001b3 % 2 ** 64
+    return found
+
+
+def leaf_lines(number, origin, patterns, values):
+    yield 'leaf %d %d %d %d %d %016x' % (number, *origin, len(patterns), digest(patterns))
+    if values:
+        for at in range(0, len(patterns), 8):
+            yield 'values ' + ' '.join('%08x' % pattern for pattern in patterns[at:at + 8])
+
+
+def record_line(corner, level, pattern):
+    """Coordinates are rounded to 32-bit floats, as the Rust gives them."""
+    bits = [struct.pack('<f', number) for number in corner]
+    rounded = [int(struct.unpack('<f', four)[0]) for four in bits]
+    patterns = [struct.unpack('<I', four)[0] for four in bits]
+    return 'record %d %d %d %08x %08x %08x %d %08x' % (*rounded, *patterns, level, pattern)
+
+
+def items(text):
+    """From the name of each thing that the text tells to what it tells. A name begins with its grid,
+    or with None."""
+    found, grid, numbers = {}, None, {}
+    for line in text.splitlines():
+        word, _, rest = line.partition(' ')
+        if word == 'file':
+            continue
+        if word == 'grid':
+            grid, numbers = rest, {}
+            found[grid, 'grid'] = ''
+        elif word == 'entry':
+            name = rest[:rest.index('" "') + 1]
+            found[grid, 'entry', name] = rest[len(name) + 1:]
+        elif word in ('vector', 'leaf', 'values', 'record'):
+            numbers[word] = numbers.get(word, -1) + 1
+            found[grid, word, numbers[word]] = rest
+        elif word in NO_ANSWER:
+            found[grid, 'answer'] = line
+        else:
+            found[grid, word] = rest
+    return found
+
+
+KINDS = {'version': 'header', 'library': 'header', 'identity': 'header', 'grids': 'header',
+         'entries': 'metadata', 'entry': 'metadata', 'map': 'transform', 'vector': 'transform',
+         'leaves': 'leaves', 'leaf': 'leaves', 'values': 'leaves',
+         'records': 'active items', 'record': 'active items'}
+
+
+def kind(name):
+    return KINDS.get(name[1], 'descriptors')
+
+
+def differences(one, other):
+    """How many things of each kind were compared, and those that differ. Where only one side has an
+    answer for a grid, or for the file, that is one difference; of the rest of that grid only what
+    both sides tell is compared."""
+    one, other = items(one), items(other)
+    counts, found = {}, []
+    silent = set()
+    for grid in {name[0] for name in one | other}:
+        answers = [side.get((grid, 'answer')) for side in (one, other)]
+        if any(answers):
+            silent.add(grid)
+            if not all(answers):
+                found.append(((grid, 'answer'), *(answer or 'answered' for answer in answers)))
+    for name in sorted(one | other, key=str):
+        if name[1] == 'answer':
+            continue
+        if name[0] in silent and (name[1] == 'records' or name not in one or name not in other):
+            continue
+        counts[kind(name)] = counts.get(kind(name), 0) + 1
+        pair = one.get(name, 'absent'), other.get(name, 'absent')
+        if pair[0] != pair[1]:
+            found.append((name, *pair))
+    return counts, found

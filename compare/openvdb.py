@@ -1,0 +1,99 @@
+#!/usr/bin/env python3
+"""Prints a cloud in the text of README.md, as OpenVDB's own library has it.
+
+    openvdb.py DESCRIBE FILE [--document] [--values]
+
+DESCRIBE is the program that tools/openvdb builds. With --document a leaf's inactive places hold what
+document 01 says, zero where no value is read, and not the background.
+"""
+import re
+import subprocess
+import sys
+
+import canonical
+
+
+def described(describe, path, *words):
+    done = subprocess.run([describe, path, *words], capture_output=True, check=True)
+    return done.stdout.decode('latin-1').splitlines()
+
+
+def leaves(describe, path, side):
+    """For each grid's number its leaves: origin and values."""
+    found, grid = {}, None
+    for line in described(describe, path, 'values', side):
+        words = line.split()
+        if words[0] == 'grid':
+            grid = found.setdefault(int(words[1]), [])
+        elif words[0] == 'leaf':
+            grid.append(([int(word) for word in words[2:]], []))
+        elif words[0] != 'refused':
+            grid[-1][1].extend(int(word, 16) for word in words)
+    return found
+
+
+def entry(line):
+    """Without the start and the length of a text or of raw bytes; sorted by its name's bytes."""
+    name, kind, value = re.fullmatch(r'entry ("(?:[^"\\]|\\.)*") ("(?:[^"\\]|\\.)*") ?(.*)', line).groups()
+    if kind not in ('"bool"', '"int32"', '"int64"', '"float"', '"vec3i"'):
+        value = value.split(' ', 2)[2] if value.count(' ') > 1 else ''
+    return plain(name), ' '.join(['entry', name, kind, value]).rstrip()
+
+
+def plain(name):
+    """The bytes of a name in quotes, as text that sorts alike."""
+    return re.sub(r'\\(x..|.)', lambda m: m[1] if len(m[1]) == 1 else chr(int(m[1][1:], 16)), name[1:-1])
+
+
+def rewritten(lines, filled, values):
+    """The lines of a part, of the file or of a grid."""
+    entries, records = [], False
+    for line in lines:
+        word, _, rest = line.partition(' ')
+        if entries and word != 'entry':
+            yield from (line for _, line in sorted(entries))
+            entries = []
+        if records:
+            *corner, level, pattern = line.split()
+            yield canonical.record_line([int(number) for number in corner], int(level), int(pattern, 16))
+        elif word == 'file':
+            yield 'file ' + rest.split()[-1]
+        elif word in ('version', 'library', 'grids', 'positions', 'flags', 'vector', 'refused'):
+            yield line
+        elif word in ('identity', 'type', 'parent'):
+            yield word + ' ' + rest.split(' ', 2)[2]
+        elif word == 'name':
+            yield 'grid ' + rest.split(' ', 2)[2]
+        elif word == 'metadata':
+            yield 'entries ' + rest.split()[-1]
+        elif word == 'entry':
+            entries.append(entry(line))
+        elif word == 'map':
+            if rest[1:-1] in canonical.MAPS:
+                yield 'map ' + canonical.MAPS[rest[1:-1]]
+        elif word == 'leaves':
+            yield line
+            for number, (origin, patterns) in enumerate(filled):
+                yield from canonical.leaf_lines(number, origin, patterns, values)
+        elif word == 'records':
+            yield line
+            records = True
+    yield from (line for _, line in sorted(entries))
+
+
+def main(arguments):
+    values, side = '--values' in arguments, 'document' if '--document' in arguments else 'openvdb'
+    describe, path = [word for word in arguments if not word.startswith('--')]
+    parts = [[]]
+    for line in described(describe, path):
+        if line.startswith('grid '):
+            parts.append([])
+        parts[-1].append(line)
+    filled = leaves(describe, path, side)
+    head, *grids = ['\n'.join(rewritten(part, filled.get(number - 1, []), values)) for number, part in enumerate(parts)]
+    grids.sort(key=lambda text: plain(text.splitlines()[0].partition(' ')[2]))
+    print('\n'.join([head, *grids]))
+
+
+if __name__ == '__main__':
+    main(sys.argv[1:])
