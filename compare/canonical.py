@@ -3,7 +3,7 @@ import struct
 
 MAPS = {'UniformScaleMap': 'UniformScaleMap', 'ScaleMap': 'UniformScaleMap',
         'UniformScaleTranslateMap': 'ScaleTranslateMap', 'ScaleTranslateMap': 'ScaleTranslateMap'}
-NO_ANSWER = 'error:', 'panic:', 'refused'
+NO_ANSWER = 'error:', 'panic:', 'abort', 'refused'
 
 
 def quoted(data):
@@ -77,8 +77,9 @@ def differences(one, other):
     both sides tell is compared."""
     one, other = items(one), items(other)
     counts, found = {}, []
+    whole = (None, 'answer') not in one and (None, 'answer') not in other
     silent = set()
-    for grid in {name[0] for name in one | other}:
+    for grid in {name[0] for name in one | other} if whole else {None}:
         answers = [side.get((grid, 'answer')) for side in (one, other)]
         if any(answers):
             silent.add(grid)
@@ -87,7 +88,7 @@ def differences(one, other):
     for name in sorted(one | other, key=str):
         if name[1] == 'answer':
             continue
-        if name[0] in silent and (name[1] == 'records' or name not in one or name not in other):
+        if (not whole or name[0] in silent) and (name[1] == 'records' or name not in one or name not in other):
             continue
         counts[kind(name)] = counts.get(kind(name), 0) + 1
         pair = one.get(name, 'absent'), other.get(name, 'absent')

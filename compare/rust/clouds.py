@@ -1,17 +1,21 @@
 #!/usr/bin/env python3
-"""Compares what the Rust reads from the stored clouds with what OpenVDB's library says is in them.
+"""Compares what the Rust reads from clouds with what OpenVDB's library says is in them.
 
     clouds.py DUMP DESCRIBE FILE ...
 
-Leaf values are compared twice: with those of OpenVDB, and with those of document 01, where an inactive
-value that is not read is zero. Prints each difference and what was compared.
+Header, descriptors, metadata, transform, leaf values and active items are compared, then the leaf values once
+more: at first inactive places that hold no value read are zero, as in document 01, then as OpenVDB has them,
+which is the background. Prints the differences, what was compared, and how many differences are on no list;
+exits with 1 if there are such.
 """
 import os
 import subprocess
 import sys
 
-HERE = os.path.dirname(os.path.abspath(__file__))
-sys.path.insert(0, os.path.dirname(HERE))
+import listed
+
+ABOVE = os.path.join(os.path.dirname(os.path.abspath(__file__)), '..')
+sys.path.insert(0, ABOVE)
 import canonical  # noqa: E402
 
 
@@ -20,28 +24,28 @@ def printed(*words):
 
 
 def main(dump, describe, *paths):
-    script = os.path.join(os.path.dirname(HERE), 'openvdb.py')
-    total, differing = {}, 0
+    total, background, strange = {}, 0, 0
     for path in paths:
         rust = printed(dump, path)
-        for side in ('document', 'openvdb'):
-            other = printed(sys.executable, script, describe, path, '--' + side)
-            counts, found = canonical.differences(rust, other)
-            if side == 'openvdb':
-                counts, found = {}, [(name, *pair) for name, *pair in found if canonical.kind(name) == 'leaves']
-            name = os.path.basename(path)
-            if found:
-                print('%s, against %s:' % (name, 'OpenVDB' if side == 'openvdb' else 'OpenVDB, inactive places by document 01'))
-                for thing, one, another in found[:12]:
-                    print('    %s: Rust %s | OpenVDB %s' % (' '.join(str(part) for part in thing if part is not None), one, another))
-                if len(found) > 12:
-                    print('    and %d more' % (len(found) - 12))
-            differing += len(found)
-            for kind, count in counts.items():
-                total[kind] = total.get(kind, 0) + count
-    print('%d clouds; compared: %s; %d differences' % (
-        len(paths), ', '.join('%d %s' % (count, kind) for kind, count in sorted(total.items())), differing))
+        document, openvdb = (printed(sys.executable, os.path.join(ABOVE, 'by_openvdb.py'), describe, path, *side)
+                             for side in (['--document'], []))
+        version = int(canonical.items(document).get((None, 'version'), 0))
+        counts, found = canonical.differences(rust, document)
+        for name, one, other in found:
+            row = listed.row(name, one, other, version)
+            strange += row is None
+            thing = ' '.join(str(part) for part in name if part is not None)
+            print('%s %s: Rust %s | OpenVDB %s (%s)' % (os.path.basename(path), thing, one, other, row or 'on no list'))
+        known = {name for name, *_ in found}
+        for name, *_ in canonical.differences(rust, openvdb)[1]:
+            background += name[1] == 'leaf' and name not in known
+        for kind, count in counts.items():
+            total[kind] = total.get(kind, 0) + count
+    print('%d leaves equal by document 01 and not with the background in inactive places (section 5)' % background)
+    print('%d clouds; compared: %s; %d on no list' % (
+        len(paths), ', '.join('%d %s' % (count, kind) for kind, count in sorted(total.items())), strange))
+    return 1 if strange else 0
 
 
 if __name__ == '__main__':
-    main(*sys.argv[1:])
+    sys.exit(main(*sys.argv[1:]))

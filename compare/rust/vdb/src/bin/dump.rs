@@ -295,6 +295,11 @@ fn print_file<R: Read + Seek>(out: &mut Out, source: R, options: &Options) -> Do
     }
     let mut names: Vec<_> = reader.grid_descriptors.keys().cloned().collect();
     names.sort();
+    if options.calls {
+        // Longer than every name that is there.
+        let absent: String = names.iter().map(String::as_str).chain(["x"]).collect();
+        print_answer(out, "absent", || reader.read_grid::<f32>(&absent).map(|_| ()))?;
+    }
     for name in names {
         let gd = &reader.grid_descriptors[&name];
         print_descriptor(out, gd)?;

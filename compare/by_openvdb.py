@@ -1,7 +1,7 @@
 #!/usr/bin/env python3
 """Prints a cloud in the text of README.md, as OpenVDB's own library has it.
 
-    openvdb.py DESCRIBE FILE [--document] [--values]
+    by_openvdb.py DESCRIBE FILE [--document] [--values]
 
 DESCRIBE is the program that tools/openvdb builds. With --document a leaf's inactive places hold what
 document 01 says, zero where no value is read, and not the background.
@@ -46,10 +46,13 @@ def plain(name):
 
 
 def rewritten(lines, filled, values):
-    """The lines of a part, of the file or of a grid."""
-    entries, records = [], False
+    """The lines of a part, of the file or of a grid. Where something is refused, what the text of README.md does not
+    have before a refusal is left out: the header, or a grid's map."""
+    entries, records, refused = [], False, lines[-1].startswith('refused')
     for line in lines:
         word, _, rest = line.partition(' ')
+        if refused and (word in ('map', 'vector', 'row') or lines[0].startswith('file') and word not in ('file', 'refused')):
+            continue
         if entries and word != 'entry':
             yield from (line for _, line in sorted(entries))
             entries = []
