@@ -13,6 +13,7 @@ import subprocess
 import sys
 
 import listed
+import rows
 
 ABOVE = os.path.join(os.path.dirname(os.path.abspath(__file__)), '..')
 sys.path.insert(0, ABOVE)
@@ -26,7 +27,7 @@ def printed(*words):
 def main(dump, describe, *paths):
     total, background, strange = {}, 0, 0
     for path in paths:
-        rust = printed(dump, path)
+        rust = rows.dumped(dump, path)
         document, openvdb = (printed(sys.executable, os.path.join(ABOVE, 'by_openvdb.py'), describe, path, *side)
                              for side in (['--document'], []))
         version = int(canonical.items(document).get((None, 'version'), 0))
