@@ -13,11 +13,11 @@ import subprocess
 import sys
 
 import listed
-import rows
+import rows  # and with it the directory above
 
-ABOVE = os.path.join(os.path.dirname(os.path.abspath(__file__)), '..')
-sys.path.insert(0, ABOVE)
-import canonical  # noqa: E402
+import canonical
+
+ABOVE = os.path.dirname(os.path.abspath(canonical.__file__))
 
 
 def printed(*words):
