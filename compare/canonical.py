@@ -79,7 +79,7 @@ def differences(one, other):
     counts, found = {}, []
     whole = (None, 'answer') not in one and (None, 'answer') not in other
     silent = set()
-    for grid in {name[0] for name in one | other} if whole else {None}:
+    for grid in sorted({name[0] for name in one | other}, key=str) if whole else [None]:
         answers = [side.get((grid, 'answer')) for side in (one, other)]
         if any(answers):
             silent.add(grid)

@@ -32,11 +32,17 @@ def main(dump, describe, *paths):
                              for side in (['--document'], []))
         version = int(canonical.items(document).get((None, 'version'), 0))
         counts, found = canonical.differences(rust, document)
+        seen = {}
         for name, one, other in found:
             row = listed.row(name, one, other, version)
             strange += row is None
-            thing = ' '.join(str(part) for part in name if part is not None)
-            print('%s %s: Rust %s | OpenVDB %s (%s)' % (os.path.basename(path), thing, one, other, row or 'on no list'))
+            seen[row] = seen.get(row, 0) + 1
+            if row is None or seen[row] <= 2:
+                thing = ' '.join(str(part) for part in name if part is not None)
+                print('%s %s: Rust %s | OpenVDB %s (%s)' % (os.path.basename(path), thing, one, other, row or 'on no list'))
+        for row, times in seen.items():
+            if row and times > 2:
+                print('%s: %s %d times more' % (os.path.basename(path), row, times - 2))
         known = {name for name, *_ in found}
         for name, *_ in canonical.differences(rust, openvdb)[1]:
             background += name[1] == 'leaf' and name not in known
