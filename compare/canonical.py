@@ -1,5 +1,10 @@
-"""The text that every dumper prints (README.md): its lines in Python, and two such texts compared."""
+#!/usr/bin/env python3
+"""The text that every dumper prints (README.md): its lines in Python, and two such texts compared.
+
+    canonical.py ONE OTHER      prints what two texts tell differently; exit status 1 if there is such a thing
+"""
 import struct
+import sys
 
 MAPS = {'UniformScaleMap': 'UniformScaleMap', 'ScaleMap': 'UniformScaleMap',
         'UniformScaleTranslateMap': 'ScaleTranslateMap', 'ScaleTranslateMap': 'ScaleTranslateMap'}
@@ -95,3 +100,16 @@ def differences(one, other):
         if pair[0] != pair[1]:
             found.append((name, *pair))
     return counts, found
+
+
+def main(one, other):
+    with open(one, encoding='ascii') as first, open(other, encoding='ascii') as second:
+        counts, found = differences(first.read(), second.read())
+    for name, left, right in found:
+        print('%s: %s | %s' % (' '.join(str(part) for part in name if part is not None), left, right))
+    print('%d things compared, %d differ' % (sum(counts.values()), len(found)))
+    return 1 if found else 0
+
+
+if __name__ == '__main__':
+    sys.exit(main(*sys.argv[1:]))

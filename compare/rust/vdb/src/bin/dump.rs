@@ -68,7 +68,10 @@ fn caught<T, E: Error>(call: impl FnOnce() -> Result<T, E>) -> Result<T, String>
 }
 
 fn message(payload: &(dyn Any + Send)) -> String {
-    let text = match (payload.downcast_ref::<&str>(), payload.downcast_ref::<String>()) {
+    let text = match (
+        payload.downcast_ref::<&str>(),
+        payload.downcast_ref::<String>(),
+    ) {
         (Some(text), _) => text.to_string(),
         (_, Some(text)) => text.clone(),
         _ => String::new(),
@@ -116,7 +119,11 @@ fn print_descriptor(out: &mut Out, gd: &GridDescriptor) -> Done {
     writeln!(out, "grid {}", quoted(&gd.name))?;
     writeln!(out, "type {}", quoted(&gd.grid_type))?;
     writeln!(out, "parent {}", quoted(&gd.instance_parent))?;
-    writeln!(out, "positions {} {} {}", gd.grid_pos, gd.block_pos, gd.end_pos)?;
+    writeln!(
+        out,
+        "positions {} {} {}",
+        gd.grid_pos, gd.block_pos, gd.end_pos
+    )?;
     writeln!(out, "flags {}", gd.compression.bits())?;
     print_metadata(out, &gd.meta_data)
 }
@@ -131,7 +138,13 @@ fn print_map(out: &mut Out, map: &Map) -> Done {
             inv_twice_scale,
         } => (
             "UniformScaleMap",
-            vec![scale_values, voxel_size, scale_values_inverse, inv_scale_sqr, inv_twice_scale],
+            vec![
+                scale_values,
+                voxel_size,
+                scale_values_inverse,
+                inv_scale_sqr,
+                inv_twice_scale,
+            ],
         ),
         Map::ScaleTranslateMap {
             translation,
@@ -172,7 +185,12 @@ fn digest<T: Value>(values: &[T]) -> u64 {
 fn print_leaf<T: Value>(out: &mut Out, number: usize, leaf: &Node3<T>, values: bool) -> Done {
     let (origin, buffer) = (leaf.origin, &leaf.buffer);
     let [x, y, z] = [origin.x, origin.y, origin.z];
-    writeln!(out, "leaf {number} {x} {y} {z} {} {:016x}", buffer.len(), digest(buffer))?;
+    writeln!(
+        out,
+        "leaf {number} {x} {y} {z} {} {:016x}",
+        buffer.len(),
+        digest(buffer)
+    )?;
     if values {
         for row in buffer.chunks(8) {
             let row: Vec<_> = row.iter().map(|v| v.pattern()).collect();
@@ -209,9 +227,17 @@ fn print_records<T: Value>(out: &mut Out, grid: &Grid<T>) -> Done {
                 VdbLevel::Node4 => 2,
             };
             let [x, y, z] = [at.x, at.y, at.z];
-            let bits = format!("{:08x} {:08x} {:08x}", x.to_bits(), y.to_bits(), z.to_bits());
+            let bits = format!(
+                "{:08x} {:08x} {:08x}",
+                x.to_bits(),
+                y.to_bits(),
+                z.to_bits()
+            );
             let (x, y, z) = (x as i64, y as i64, z as i64);
-            lines.push(format!("record {x} {y} {z} {bits} {level} {}", value.pattern()));
+            lines.push(format!(
+                "record {x} {y} {z} {bits} {level} {}",
+                value.pattern()
+            ));
         }
         Ok::<(), std::fmt::Error>(())
     });
@@ -285,7 +311,11 @@ fn print_file<R: Read + Seek>(out: &mut Out, source: R, options: &Options) -> Do
     };
     let header = &reader.header;
     writeln!(out, "version {}", header.file_version)?;
-    writeln!(out, "library {} {}", header.library_version_major, header.library_version_minor)?;
+    writeln!(
+        out,
+        "library {} {}",
+        header.library_version_major, header.library_version_minor
+    )?;
     writeln!(out, "identity {}", quoted(&header.guid))?;
     print_metadata(out, &header.meta_data)?;
     writeln!(out, "grids {}", header.grid_count)?;
@@ -298,7 +328,9 @@ fn print_file<R: Read + Seek>(out: &mut Out, source: R, options: &Options) -> Do
     if options.calls {
         // Longer than every name that is there.
         let absent: String = names.iter().map(String::as_str).chain(["x"]).collect();
-        print_answer(out, "absent", || reader.read_grid::<f32>(&absent).map(|_| ()))?;
+        print_answer(out, "absent", || {
+            reader.read_grid::<f32>(&absent).map(|_| ())
+        })?;
     }
     for name in names {
         let gd = &reader.grid_descriptors[&name];
