@@ -3,7 +3,8 @@
 #
 #     build.sh [SOURCE]      SOURCE is the directory of reader.rs, data_structure.rs, transform.rs
 #
-# The crates that they need come from Debian's pool, each compared with its sum in crates.sha256.
+# The crates that they need come from Debian's pool, each compared with its sum in crates.sha256. Where glam is not to be
+# had, or STANDINS=all is set, our stand-in takes its place.
 # build/checked/dump has overflow checks, build/release/dump has none.
 set -euo pipefail
 here=$(cd "$(dirname "$0")" && pwd)
@@ -26,6 +27,7 @@ while read -r sum path; do
         dpkg-deb -x "$deb" "$build/unpacked"
     else
         echo "not to be had: $path"
+        [[ $path == */rust-glam/* ]] || exit 1
     fi
 done < "$here/crates.sha256"
 mv "$build"/unpacked/usr/share/cargo/registry/* "$build/crates"
