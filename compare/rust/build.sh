@@ -10,7 +10,8 @@ set -euo pipefail
 here=$(cd "$(dirname "$0")" && pwd)
 source=${1:-$here/../../../shared/docs/src/src}
 build=$here/build
-pool=${DEBIAN_MIRROR:-http://deb.debian.org/debian}
+# where this machine has its packages from
+pool=${DEBIAN_MIRROR:-$(apt-get indextargets --format '$(REPO_URI)' 'Created-By: Packages' | grep -v security | head -n 1)}
 mkdir -p "$build/debs" "$build/vdb"
 
 (cd "$source" && sha256sum --quiet -c "$here/source.sha256")
