@@ -4,6 +4,8 @@ from document import File, Opened, Refused
 from program import Program, changes, in_quotes, spelt, summed
 
 SLOTS = 600
+# The number of words of a walk's place, each of which is set in turn.
+WORDS = 32
 
 
 def answered(call):
@@ -65,6 +67,23 @@ def after_fill(answer, values, whole):
     return answer + (changes(slots, 0, '%08x') if whole else '') + summed(slots)
 
 
+def walked(records, start, slots):
+    """What is handed out with so many slots from the place after `start` records, that all is as it should be, and the sum."""
+    found = records[start:start + slots]
+    items = [item + 2 ** 31 if place < 3 else item for record in found for place, item in enumerate(record)]
+    return numbers(len(found), len(records[start:]) - len(found), 1, 1, 1) + summed(items)
+
+
+def walked_whole(records, portions):
+    """All records, or none where no call has slots; then a call with five slots."""
+    end = len(records) if any(portions) else 0
+    return walked(records, 0, end) + walked(records, end, 5)
+
+
+def listed(records):
+    return ''.join(' | %d %d %d %d %08x' % record for record in records[:1000])
+
+
 def asked_for(words, asked):
     """A number as one word more, a name behind a colon."""
     return '%s %d' % (words, asked) if isinstance(asked, int) else '%s: %s' % (words, named(asked))
@@ -116,3 +135,18 @@ class Questions(Program):
 
     def trims(self, start, end):
         self.row('trims', start, end, File)
+
+    def walk(self, asked, *portions):
+        self.ask('Walk' + numbers(asked, *portions),
+                 answered(lambda: walked_whole(Opened(self.file(), asked).active(), portions)))
+
+    def list(self, asked):
+        self.ask('List %d' % asked, answered(lambda: listed(Opened(self.file(), asked).active())))
+
+    def next(self, length, asked, start, slots, answer):
+        self.ask('Next' + numbers(length, asked, start, slots), answer)
+
+    def tried(self, word, length, asked, start, slots, *more):
+        """All of these calls must be answered in the way that the word says."""
+        calls = more[1] - more[0] if len(more) == 2 else WORDS if more else 1
+        self.ask(word + numbers(length, asked, start, slots, *more), numbers(calls, calls))

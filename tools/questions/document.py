@@ -204,30 +204,30 @@ def moved(origin, place, side, step):
 def node(reader, coding, places):
     child, value = reader.mask(places), reader.mask(places)
     check(not child & value, 18)
-    Stored(reader, coding, places, child, value)
-    return child, value
+    return child, value, Stored(reader, coding, places, child, value)
 
 
 def topology(reader, coding):
-    """Background, number of roots, number of active places, and the leaves' origins and masks."""
+    """The background and the roots. A root has its origin, value mask, values and 4-nodes, a 4-node its origin, value mask, values
+    and leaves, a leaf its origin and mask."""
     check(reader.u32() == 1, 15)
-    background, tiles, roots = reader.u32(), reader.u32(), reader.u32()
-    check(roots <= 256, 16)
+    background, tiles, count = reader.u32(), reader.u32(), reader.u32()
+    check(count <= 256, 16)
     reader.take(17 * tiles)
-    active, leaves, origins = 0, [], set()
-    for _ in range(roots):
+    roots, origins = [], set()
+    for _ in range(count):
         origin = reader.numbers('iii')
         check(not any(number % 4096 for number in origin) and origin not in origins, 17)
         origins.add(origin)
-        child5, value5 = node(reader, coding, 32768)
-        active += ones(value5)
+        child5, value5, stored5 = node(reader, coding, 32768)
+        nodes = []
         for place5 in rising(child5):
-            child4, value4 = node(reader, coding, 4096)
-            active += ones(value4)
-            for place4 in rising(child4):
-                leaf = moved(moved(origin, place5, 32, 128), place4, 16, 8)
-                leaves.append((leaf, reader.mask(512)))
-    return background, roots, active, leaves
+            origin4 = moved(origin, place5, 32, 128)
+            child4, value4, stored4 = node(reader, coding, 4096)
+            leaves = [(moved(origin4, place4, 16, 8), reader.mask(512)) for place4 in rising(child4)]
+            nodes.append((origin4, value4, stored4, leaves))
+        roots.append((origin, value5, stored5, nodes))
+    return background, roots
 
 
 def block(reader, coding, origin, mask):
@@ -239,6 +239,15 @@ def block(reader, coding, origin, mask):
 
 
 # Sections 7 and 8
+
+# The side of a leaf, a 4-node and a 5-node, and the side of what one place of it covers.
+LEVELS = [(8, 1), (16, 8), (32, 128)]
+
+
+def active_places(level, origin, mask, stored):
+    """A record for each one: x, y, z, level, value."""
+    return [moved(origin, place, *LEVELS[level]) + (level, stored.at(place)) for place in rising(mask)]
+
 
 class Opened:
     """A grid, by its name or its number."""
@@ -253,12 +262,26 @@ class Opened:
         coding = Coding(file.version, grid.flags, 2 if half == [('b', (True,))] else 4)
         reader = Reader(data, grid.tree)
         self.map = transform(reader)
-        self.background, self.roots, self.records, leaves = topology(reader, coding)
+        self.background, self.tree = topology(reader, coding)
+        self.roots = len(self.tree)
+        nodes = [node for root in self.tree for node in root[3]]
+        leaves = [leaf for node in nodes for leaf in node[3]]
         reader = Reader(data, grid.block)
         self.leaves = [block(reader, coding, origin, mask) for origin, mask in leaves]
-        self.records += sum(ones(mask) for _, mask in leaves)
+        self.records = sum(ones(mask) for _, mask, *_ in self.tree + nodes + leaves)
 
     def fill(self, leaf, slots):
         """The slots' contents after the fill."""
         check(leaf < len(self.leaves) and slots == 512, 21)
         return [self.leaves[leaf].at(place) for place in range(512)]
+
+    def active(self):
+        """The active list."""
+        found, blocks = [], iter(self.leaves)
+        for origin5, value5, stored5, nodes in self.tree:
+            for origin4, value4, stored4, leaves in nodes:
+                for origin, mask in leaves:
+                    found += active_places(0, origin, mask, next(blocks))
+                found += active_places(1, origin4, value4, stored4)
+            found += active_places(2, origin5, value5, stored5)
+        return found

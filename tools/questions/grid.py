@@ -126,10 +126,11 @@ ORDER_FILES = [
 ]
 
 
-def three(q):
+def four(q):
     q.open(b'd')
     q.open(0)
     q.values(0, 0)
+    q.walk(0, 1)
 
 
 def ask_files(q, files):
@@ -141,7 +142,7 @@ def ask_files(q, files):
         for at, new in changes:
             q.change(at, new)
         agree(q, number)
-        three(q)
+        four(q)
 
 
 def agree(q, number):
@@ -231,7 +232,7 @@ def two_roots(q):
         q.word(270, 2)
         q.quad(102, 9568 + len(root))
         agree(q, number)
-        three(q)
+        four(q)
 
 
 # Each node byte
@@ -291,6 +292,7 @@ def forms(q, name, flags, entries, width):
         q.open(0)
         q.fill(0, 0)
         q.fill(b'd', 1)
+        q.walk(0, 7, 0)
         q.cuts(len(data) + 60, end + 1)
 
 
@@ -366,7 +368,7 @@ def old(q):
     q.make(data + bytes(1024))
     q.random(len(data), 1024, 1)
     agree(q, 0)
-    three(q)
+    four(q)
 
 
 def ask(q):

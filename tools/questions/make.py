@@ -11,6 +11,7 @@ import grid
 import openvdb
 import parts
 import transforms
+import walks
 from calls import Questions
 
 TOOLS = os.path.dirname(os.path.dirname(os.path.abspath(__file__)))
@@ -21,6 +22,7 @@ archive.ask(q)
 grid.ask(q)
 openvdb.ask(q, os.path.join(TOOLS, 'openvdb', 'out'))
 transforms.ask(q)
+walks.ask(q, os.path.join(TOOLS, 'openvdb', 'out'))
 q.write(os.path.join(CRATES, 'questions'))
 
 q = Questions()

@@ -110,11 +110,11 @@ class Program:
     def load(self, name):
         """What stands in a file of data/ is not known here."""
         self.say('load: "%s"' % name)
-        self.data = None
+        self.data = self.length = None
 
     def keep(self):
         self.say('keep')
-        self.kept = bytes(self.data), self.length
+        self.kept = self.data and bytes(self.data), self.length
 
     def again(self):
         self.data, self.length = bytearray(self.kept[0]), self.kept[1]

@@ -1,5 +1,5 @@
 // Answers questions about files, a line of the input each, and writes each line again with its answer behind it. The language stands in
-// asking/src/line.rt and asking/src/file.rt, and in file.rt and calls.rt. The questions and what must be written come from tools/questions.
+// asking/src/line.rt and asking/src/file.rt, in file.rt and calls.rt, and in walks/src/lib.rt. The questions and what must be written come from tools/questions.
 mod calls;
 mod file;
 mod series;
@@ -10,6 +10,7 @@ use line::Line;
 // The end of a line: what it asks for is answered, what it says is done, and the next one begins.
 fn answer(m: Line, f: &mut [u8; 262144], kept: &mut [u8; 262144], n: &mut [u64; 8]) -> Line {
     calls::ask(m, f, n);
+    walks::ask(m, f, kept, n);
     let len = file::take(m, f, kept, n);
     line::end(m.command, len, f, n)
 }
