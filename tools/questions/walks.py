@@ -17,9 +17,9 @@ PORTIONS = [(0,), (1,), (2,), (3,), (7,), (64,), (1000,), (0, 1), (0, 0, 2, 0, 3
             (1000, 0, 1)]
 # A list with more records is not shown.
 SHOWN = 200
-# What a word of a place is set to: 0, 1, a large number, all ones; and an origin, the ends of masks, all ones of 32 bits.
-VALUES = [0, 1, 2 ** 63, 2 ** 64 - 1]
-OTHERS = [2, 512, 4096, 2147479552, 2 ** 32 - 1, 2 ** 64 - 4096]
+# What a word of a place is set to: 0, 1, a large number, all ones; then widths, ends of masks, origins, all ones of 32 bits.
+VALUES = [0, 1, 2 ** 63 + 2 ** 31, 2 ** 64 - 1]
+OTHERS = [2, 4, 512, 4096, 2147479552, 2 ** 32 - 1, 2 ** 64 - 4096]
 
 
 class Cloud:

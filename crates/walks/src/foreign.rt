@@ -31,7 +31,8 @@ fn tried(command: u8, s: &[u8], p: Place, k: u64, turn: usize) -> bool {
     is_right(command, c, k) & is_right(command, d, k)
 }
 
-fn cut(s: &[u8], len: usize) -> &[u8] {
+// The first bytes of a file.
+pub fn cut(s: &[u8], len: usize) -> &[u8] {
     fields::bytes_of(s, Span { start: 0, len })
 }
 
@@ -63,7 +64,7 @@ fn row(command: u8, count: usize, s: &[u8], p: Place, n: &[u64; 8], from: usize,
 // The calls that a line with so many numbers asks for.
 pub fn ask(command: u8, count: usize, s: &[u8], p: Place, n: &[u64; 8]) {
     match count {
-        5 => row(command, count, s, p, n, 0, 32),
+        5 => row(command, count, s, p, n, 0, words::COUNT),
         6 => row(command, count, s, p, n, n[5] as usize, n[6] as usize),
         _ => row(command, count, s, p, n, 0, 1),
     }

@@ -18,7 +18,6 @@ mod words;
 use asking::line;
 use asking::series;
 use asking::show;
-use fields::Span;
 use grid::GridAnswer;
 use lend::Called;
 use line::Line;
@@ -180,10 +179,6 @@ fn from_kept(command: u8, s: &[u8], kept: &[u8], n: &[u64; 8], count: usize) {
     }
 }
 
-fn part(f: &[u8; 262144], len: usize) -> &[u8] {
-    fields::bytes_of(f, Span { start: 0, len })
-}
-
 pub fn ask(m: Line, f: &[u8; 262144], kept: &[u8; 262144], n: &[u64; 8]) {
     let command = m.command;
     match command {
@@ -191,7 +186,7 @@ pub fn ask(m: Line, f: &[u8; 262144], kept: &[u8; 262144], n: &[u64; 8]) {
         b'N' | b'F' | b'P' => from_kept(
             command,
             line::file(m, f),
-            part(kept, n[1] as usize),
+            foreign::cut(kept, n[1] as usize),
             n,
             m.words,
         ),

@@ -7,6 +7,8 @@ use place::Place;
 use records::Inside;
 use values::Coding;
 
+pub const COUNT: usize = 32;
+
 fn low(v: u64) -> u32 {
     (v % 4294967296) as u32
 }
