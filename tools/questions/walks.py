@@ -4,6 +4,19 @@ What must be handed out is what tools/openvdb prints of OpenVDB's own tree, in t
 must have the same list. Of a place that was never reached over the bytes only this is settled: records or 22, no more records
 than slots, all other slots as they were. The lines `Foreign` count the calls that are answered so, the lines `Past` those that
 get 22 and leave all slots as they were, as they must where slots are lent, records are left and the field needed is past the end.
+
+Each number can be wrong. A fault in crates/walk/src/lib.rt, and what it changes in the lines (tried with `rt try questions`):
+
+    a slot behind the filled ones written             Walk, Next: the third number; Foreign: the second
+    a slot written where none is lent                 Walk, Next: the third number
+    a record more reported as filled                  Walk, Next: the first and the fourth; Foreign with few slots: the second
+    a record more, or none, reported as left          Walk, Next: the second and the fourth
+    other records where x has more slots than y       Walk, Next: the fifth, and the sum
+    y and z exchanged                                 Walk, Next: the sum; List
+    the place handed back is the one that was given   Walk: the first, the second, the fourth, and the sum
+    21 in place of 22, or 22 with a slot written      Next of row 22; Foreign, Past: the second
+    no record in place of 22                          Past: the second
+    23 for a place with a word that is all ones       Foreign with 2 ** 64 - 1: the second is 0, so that each of the 32 words was set
 """
 import os
 
@@ -149,11 +162,15 @@ def ask_case_a(q):
     q.next(LENGTH, 0, 0, 1, ' refused 22 1')
     q.next(LENGTH, 0, 0, 0, walked(records, 0, 0))
     q.tried('Foreign', LENGTH, 0, 1, 1)
+    for value in VALUES[1:]:
+        q.tried('Past', LENGTH, 0, 0, 1, value)
     q.comment('cuts: the root\'s origin ends at 286')
     q.again()
     for slots in (1, 1000):
         q.tried('Past', LENGTH, 0, 0, slots, 0, 286)
         q.tried('Foreign', LENGTH, 0, 0, slots, 286, LENGTH)
+        for value in VALUES + OTHERS:
+            q.tried('Foreign', LENGTH, 0, 0, slots, value)
 
 
 def ask(q, out):
