@@ -1,6 +1,6 @@
 -- Laws of places and cubes, over any side d and step s: a node's places part its cube, and the way back finds the place.
 -- Each goes axis by axis (`Axis`).
-use mathlib.Core.Path.{_≡_, refl, sym, ap, _∙_}
+use mathlib.Core.Path.{_≡_, sym, ap, _∙_}
 use mathlib.Core.Logic.{_↔_}
 use mathlib.Core.Bool.{Bool, true, _&&_}
 use Prim.Native.Nat.{ℕ, zero, suc, _+_, _*_, _/_, _%_, _<_}
@@ -8,7 +8,7 @@ use native.Mathlib.Nat.{mod-lt, mul-pos, mul-assoc, add-mul, div-add-mod', div-d
 use native.Mathlib.Omega.{arith}
 use lib.Arith.{digits-lt, digits-div, digits-mod}
 use lib.Dec.{lit<}
-use lib.IntN.{ℤ, pos}
+use lib.IntN.{ℤ}
 use borrow.Author.Tests.{eqb-true, eq-eqb}
 use Rattle.coordinates.specs.Inner.{InRange}
 use Rattle.coordinates.specs.Coordinates.{aligned, coordOf, covers, globalOf, index, localOf, placeAlong, placeOf, places, remainder, rootOrigin, within}
@@ -225,16 +225,3 @@ pub place-in-range : (d s : ℕ) (o : GlobalCoord) (p : Index) → p .0 < places
 place-in-range d s o p h k w f a =
     let q = globalOf d s o p in
     cube-in-range (d * s) o q w f a (inside-parent d s o q p h (corner-covered q s k))
-
--- ---- the marked figures of section 9
-
-abbrev corner : ℕ → GlobalCoord
-corner n = (pos n, pos n, pos n)
-
--- 4-node place 3 and 5-node place 1057 from origin 0; the last voxel from origin 2147479552
-pub figures :
-    (globalOf 16 8 (corner 0) (index 3) ≡ (pos 0, pos 0, pos 24))
-    × (globalOf 32 128 (corner 0) (index 1057) ≡ corner 128)
-    × (globalOf 8 1 (globalOf 16 8 (globalOf 32 128 (corner 2147479552) (index 32767)) (index 4095)) (index 511) ≡ corner 2147483647)
-unfolding globalOf localOf
-figures = (refl, refl, refl)

@@ -206,16 +206,6 @@ widened-lt h H = go (isNanHalf h) refl
     go true e = let q = quiet-range (fraction h) (omega arith) in rw (nan-is h e) (omega arith)
     go false e = rw (plain h e) (toBits-lt binary32 (halfValue h) (half-fits h))
 
--- document 01, section 9: the marked halves. The last is the sign of zero, kept
-pub marked :
-    (widened 0x0001 ≡ 0x33800000)
-    × (widened 0x03ff ≡ 0x387fc000)
-    × (widened 0x0400 ≡ 0x38800000)
-    × (widened 0x7c01 ≡ 0x7fc02000)
-    × (widened 0x8000 ≡ 0x80000000)
-unfolding widened
-marked = (refl, refl, refl, refl, refl)
-
 -- ---- the table
 
 times : (k : ℕ) → k < 1024 → isTimes k (widened k)
