@@ -1,0 +1,18 @@
+use borrow.Author.Needs.{needs}
+use Rattle.fields.specs.Inner.{saysSpan}
+use Rattle.fields.proofs.Steps.{then-by, steps}
+use Rattle.reader.specs.Inner.{namesOf}
+use Rattle.reader.proofs.names_of.Statement.{statement}
+use Rattle.reader.proofs.names_of.Tie as tie
+
+pub names-of-spec : {M : Type 1} → statement M
+unfolding namesOf
+names-of-spec =
+    tie.close
+    (tie.spec
+    (λ c. search needs) (λ c. search needs) (λ c. search needs)
+    (λ c. search needs) (λ c. search needs) (λ c. search needs)
+    (λ c. search (steps, then-by saysSpan))
+    (λ c. search (steps, then-by saysSpan))
+    (λ c. search (steps, then-by saysSpan) depth 7)
+    (λ c. search (steps, then-by saysSpan) depth 7))
