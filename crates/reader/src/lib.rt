@@ -88,6 +88,15 @@ pub fn read_d_vec3<'s, 'a>(reader: &'s mut Reader<'a>) -> DVec3Field
     f
 }
 
+// A string's bytes, where its length is known.
+pub fn read_string<'s, 'a>(reader: &'s mut Reader<'a>, len: usize) -> SpanField
+    ensures { λ f. ⌜ (saysSpan f, now (reader .exit)) ≡ reading (λ s at. bytesField s len at) (now (reader .entry)) ⌝ }
+{
+    let f = fields::read_bytes(reader.src, reader.at, len);
+    reader.at = after_span(f, reader.at);
+    f
+}
+
 // A string with its length before it.
 pub fn read_name<'s, 'a>(reader: &'s mut Reader<'a>) -> SpanField
     ensures { λ f. ⌜ (saysSpan f, now (reader .exit)) ≡ reading stringField (now (reader .entry)) ⌝ }

@@ -57,9 +57,9 @@ use Rattle.reader.specs.Inner.{readerAt, behind, reading, namesOf}
 use Rattle.reader.specs.declared.Reader.{Reader}
 use Rattle.reader.proofs.Reader as T
 use Rattle.reader.proofs.Reader.Laws as T′
-use Rattle.reader.proofs.Field.{R, α, Read, moves}
+use Rattle.reader.proofs.Field.{D, L, R, Held, Told, Read, moves}
 use Rattle.reader.proofs.Sorts.{string}
-use Rattle.reader.proofs.Lent.{lent}
+use Rattle.reader.proofs.Lent.{Cell, lent}
 use Rattle.reader.proofs.new as new
 use Rattle.reader.proofs.new.Symbol as new-def
 use Rattle.reader.proofs.new.Met as new-thm
@@ -87,13 +87,12 @@ unfolding namesOf then
 all-names s at (got name p) = later-names (stringField s) name p (stringField s p)
 all-names s at (fails k) = refl
 
-names-read : (h h₁ h₂ h₃ : Reader) (p₁ p₂ p₃ : Parse Span) → _≡_ {A = Parse Span × Reader} (p₁, h₁) (reading stringField h)
-    → _≡_ {A = Parse Span × Reader} (p₂, h₂) (reading stringField h₁) → _≡_ {A = Parse Span × Reader} (p₃, h₃) (reading stringField h₂)
+names-read : (h h₁ h₂ h₃ : Reader) (p₁ p₂ p₃ : Parse Span) → Told stringField h p₁ h₁ → Told stringField h₁ p₂ h₂ → Told stringField h₂ p₃ h₃
     → namesOf p₁ p₂ p₃ ≡ namesField (now (h .src)) (h .at)
 unfolding namesField
 names-read h h₁ h₂ h₃ p₁ p₂ p₃ e₁ e₂ e₃ =
-    let e₂′ : _≡_ {A = Parse Span × Reader} (p₂, h₂) (reading stringField (reading stringField h .1)) = e₂ ∙ ap (reading stringField) (λ i. e₁ i .1) in
-    let e₃′ : _≡_ {A = Parse Span × Reader} (p₃, h₃) (reading stringField (reading stringField (reading stringField h .1) .1)) = e₃ ∙ ap (reading stringField) (λ i. e₂′ i .1) in
+    let e₂′ : Told stringField (reading stringField h .1) p₂ h₂ = e₂ ∙ ap (reading stringField) (λ i. e₁ i .1) in
+    let e₃′ : Told stringField (reading stringField (reading stringField h .1) .1) p₃ h₃ = e₃ ∙ ap (reading stringField) (λ i. e₂′ i .1) in
     (λ i. namesOf (e₁ i .0) (e₂′ i .0) (e₃′ i .0)) ∙ all-names (now (h .src)) (h .at) (stringField (now (h .src)) (h .at))
 
 -- ---- the walk
@@ -156,7 +155,8 @@ module _ {M : Type 1} (𝓤 : URA M) (H : Heap 𝓤) (A : Atoms 𝓤) (W : Given
         owned ! S.the-row (Is S.the-row) (EL.makes S.the-type S′.the-plain 𝓤 H A) f₂ _ is₂ $ fjoin ! $
         owned ! S.the-row (Is S.the-row) (EL.makes S.the-type S′.the-plain 𝓤 H A) f₁ _ is₁ $ fjoin ! $ nothing ! $ join ! $ frame ! $ done !
 
-    names-said : (r : NamesField) → ent 𝓤 (ensured 𝓤 H A names-of.ended (names-of.clauses 𝓤 H A mem run) tt (f₁, (f₂, (f₃, tt))) tt r) (fact 𝓤 (saysNames r ≡ namesOf (saysSpan f₁) (saysSpan f₂) (saysSpan f₃)))
+    names-said : (r : NamesField) → ent 𝓤 (ensured 𝓤 H A names-of.ended (names-of.clauses 𝓤 H A mem run) tt (f₁, (f₂, (f₃, tt))) tt r)
+        (fact 𝓤 (saysNames r ≡ namesOf (saysSpan f₁) (saysSpan f₂) (saysSpan f₃)))
     names-said r = exE 𝓤 _ (λ ws. snd∗ 𝓤 (sem 𝓤 H A (lasts names-of.ended tt (f₁, (f₂, (f₃, tt))) ws)) (fact 𝓤 (saysNames r ≡ namesOf (saysSpan f₁) (saysSpan f₂) (saysSpan f₃))))
 
   exits : (r : NamesField) (u : Val) → saysNames r ≡ namesField (now s) at → ent 𝓤 (⋆ 𝓤 H A (‵ (N.the-row .own r (u ∷ [])) ∷ ‵ (flft κ q) ∷ ‵ Own ∷ [])) (Post u)
@@ -168,22 +168,28 @@ module _ {M : Type 1} (𝓤 : URA M) (H : Heap 𝓤) (A : Atoms 𝓤) (W : Given
 
   module _ (C : Calls 𝓤 H) (Λ : Loops 𝓤 H) (fm : FmC 𝓤 H (W .laws) C) (known-new : Triple 𝓤 (C new-def.name) (New 𝓤 H A mem run))
       (known-read : Triple 𝓤 (C read-def.name) (Read string 𝓤 H A)) (known-names : Triple 𝓤 (C names-def.name) (NamesOf 𝓤 H A mem run)) where
-    walk : Is (ShrSlice (named 0) κ u8) s (v ∷ []) → ent 𝓤 (onEntry 𝓤 H A read-names.signature (κ, tt) (q, tt) (s, (at, tt)) vals) (WpFn 𝓤 H C Λ code.function (v ∷ vint w64 at ∷ []) Post)
+    walk : Is (ShrSlice (named 0) κ u8) s (v ∷ []) → ent 𝓤 (onEntry 𝓤 H A read-names.signature (κ, tt) (q, tt) (s, (at, tt)) vals)
+        (WpFn 𝓤 H C Λ code.function (v ∷ vint w64 at ∷ []) Post)
     walk p =
         qed W (raw (onEntry 𝓤 H A read-names.signature (κ, tt) (q, tt) (s, (at, tt)) vals) ∷ []) ∵ enter ! C Λ code.function (v ∷ vint w64 at ∷ []) _ $
-        alloc1 ! (λ l₀. alloc1 ! (λ l₁. alloc1 ! (λ l₂. alloc1 ! (λ l₃. alloc1 ! (λ l₄. alloc1 ! (λ l₅. alloc1 ! (λ l₆. alloc1 ! (λ l₇. alloc1 ! (λ l₈. alloc1 ! (λ l₉. alloc1 ! (λ l₁₀. alloc0 ! $ params1 ! $
+        alloc1 ! (λ l₀. alloc1 ! (λ l₁. alloc1 ! (λ l₂. alloc1 ! (λ l₃. alloc1 ! (λ l₄. alloc1 ! (λ l₅. alloc1 ! (λ l₆. alloc1 ! (λ l₇. alloc1 ! (λ l₈. alloc1 ! (λ l₉. alloc1 ! (λ l₁₀.
+        alloc0 ! $ params1 ! $
         pass1 ! (init ! 18 refl (shr-slice-lawful 𝓤 H A W (named 0) κ u8 .typed s (v ∷ []) p .0)) $ pass1 ! (init ! 16 refl (tt, record { fits = fits })) $ pass0 ! $
         -- the reader is made, and set to the position
         move ! (22 ∷ []) $ use1 W (raw (New 𝓤 H A mem run .pre to-new) ⊛ ‵ Own) goes-new $ split ! $
         calls-at ! fm (New 𝓤 H A mem run) known-new to-new (and-then ! (load ! (from ! (stop !)) (look ! 20 refl)) (no-more !)) (λ u.
-        use1 W (later (some (λ (r : Reader). ((‵ (flft κ q) ⊛ ‵ ftrue) ⊛ ‵ (R κ .own r (u ∷ []))) ⊛ raw (ensured 𝓤 H A new.ended (new.clauses 𝓤 H A mem run) (κ, tt) (s, tt) tt r)))) (id⊢ 𝓤 _) $ await ! tt $ pick ! (λ r.
-        split ! $ move ! (1 ∷ []) $ use1 W (raw (fact 𝓤 (r ≡ readerAt s 0))) (new-said r) $ heard ! (r ≡ readerAt s 0) (λ e. split ! $ rewrite ! 1 (λ (h : Reader). ‵ (R κ .own h (u ∷ []))) e refl $
+        use1 W (later (some (λ (r : Reader). ((‵ (flft κ q) ⊛ ‵ ftrue) ⊛ ‵ (R κ .own r (u ∷ []))) ⊛ raw (ensured 𝓤 H A new.ended (new.clauses 𝓤 H A mem run) (κ, tt) (s, tt) tt r))))
+        (id⊢ 𝓤 _) $ await ! tt $ pick ! (λ r.
+        split ! $ move ! (1 ∷ []) $ use1 W (raw (fact 𝓤 (r ≡ readerAt s 0))) (new-said r) $ heard ! (r ≡ readerAt s 0) (λ e.
+        split ! $ rewrite ! 1 (λ (h : Reader). ‵ (R κ .own h (u ∷ []))) e refl $
         split ! $ move ! (1 ∷ []) $ drop ! $ move ! (1 ∷ []) $ peeks ! (R κ) (Is (R κ)) (shows 𝓤 H A (R κ)) (readerAt s 0) (u ∷ []) (λ is.
-        let u-is : u ≡ T′.lowered (readerAt s 0) = ap only (LL.tells (T.the-type (α κ)) (T′.the-laws (α κ)) (readerAt s 0) _ is) in
-        land ! (from ! (stop !)) (init ! 9 refl (typed (readerAt s 0) u is)) $ assigns ! (of-opd ! (load ! (from ! (stop !)) (look ! 9 refl))) (from ! (stop !)) (init ! 17 refl (typed (readerAt s 0) u is)) $
-        rewrite ! 17 (λ (z : Val). ‵ (fat fullShare (T′.mir erased) l₃ 0 z)) u-is refl $ rewrite ! 0 (λ (z : Val). ‵ (R κ .own (readerAt s 0) (z ∷ []))) u-is refl $
+        let u-is : u ≡ T′.lowered (readerAt s 0) = ap only (LL.tells (D κ) (L κ) (readerAt s 0) _ is) in
+        land ! (from ! (stop !)) (init ! 9 refl (typed (readerAt s 0) u is)) $
+        assigns ! (of-opd ! (load ! (from ! (stop !)) (look ! 9 refl))) (from ! (stop !)) (init ! 17 refl (typed (readerAt s 0) u is)) $
+        rewrite ! 17 (λ (z : Val). ‵ (fat fullShare (T′.mir erased) l₃ 0 z)) u-is refl $
+        rewrite ! 0 (λ (z : Val). ‵ (R κ .own (readerAt s 0) (z ∷ []))) u-is refl $
         assigns ! (of-opd ! (load ! (from ! (stop !)) (look ! 19 refl))) (from ! (fld ! refl (stop !))) (store-in ! 17 (sub ! 1 refl (whole !)) (tt, record { fits = fits })) $
-        use1 W (‵ (R κ .own (readerAt s at) (T′.lowered (readerAt s at) ∷ []))) (moves 𝓤 H A W κ (readerAt s 0) at fits) $
+        use1 W (‵ (Held κ (readerAt s at))) (moves 𝓤 H A W κ (readerAt s 0) at fits) $
         -- [_3; what the reader owns; the token; what s owns; _10; …; _9; …; _8; …; _7; …; _6; …; _5; …; _4; …; …; _2; …; _1; …; room for _0; …]
         move ! (17 ∷ 0 ∷ 1 ∷ []) $
         assigns ! (addr ! (from ! (stop !))) (from ! (stop !)) (init ! 8 refl (tt, tt)) $
@@ -199,7 +205,8 @@ module _ {M : Type 1} (𝓤 : URA M) (H : Heap 𝓤) (A : Atoms 𝓤) (W : Given
         use0 W (raw (NamesOf 𝓤 H A mem run .pre (to-names f₁ f₂ f₃ u₁ u₂ u₃))) (goes-names f₁ f₂ f₃ u₁ u₂ u₃ is₁ is₂ is₃) $
         calls-at ! fm (NamesOf 𝓤 H A mem run) known-names (to-names f₁ f₂ f₃ u₁ u₂ u₃)
         (and-then ! (load ! (from ! (stop !)) (look ! 17 refl)) (and-then ! (load ! (from ! (stop !)) (look ! 15 refl)) (and-then ! (load ! (from ! (stop !)) (look ! 13 refl)) (no-more !)))) (λ w.
-        use1 W (later (some (λ (t : NamesField). (‵ ftrue ⊛ ‵ (N.the-row .own t (w ∷ []))) ⊛ raw (ensured 𝓤 H A names-of.ended (names-of.clauses 𝓤 H A mem run) tt (f₁, (f₂, (f₃, tt))) tt t)))) (id⊢ 𝓤 _) $ await ! tt $ pick ! (λ t.
+        use1 W (later (some (λ (t : NamesField). (‵ ftrue ⊛ ‵ (N.the-row .own t (w ∷ []))) ⊛
+        raw (ensured 𝓤 H A names-of.ended (names-of.clauses 𝓤 H A mem run) tt (f₁, (f₂, (f₃, tt))) tt t)))) (id⊢ 𝓤 _) $ await ! tt $ pick ! (λ t.
         split ! $ move ! (1 ∷ []) $ use1 W (raw (fact 𝓤 (saysNames t ≡ namesOf (saysSpan f₁) (saysSpan f₂) (saysSpan f₃)))) (names-said f₁ f₂ f₃ u₁ u₂ u₃ t) $
         heard ! (saysNames t ≡ namesOf (saysSpan f₁) (saysSpan f₂) (saysSpan f₃)) (λ e′. split ! $ drop ! $ peeks ! N.the-row (Is N.the-row) (shows 𝓤 H A N.the-row) t (w ∷ []) (λ is′.
         land ! (from ! (stop !)) (init ! 24 refl (EL.lawful N.the-type N′.the-laws 𝓤 H A W tt .typed t _ is′ .0)) $
