@@ -28,7 +28,7 @@ use denote.Memory.{mem, cellAt, lone, pointee}
 use denote.Laws.{Is, shows}
 use denote.Plain.{uint-makes, uint-lawful}
 use denote.Builtin.{u8, usize}
-use denote.Ref.{RefT, NamedLft, MutRef, ptr-vals, mut-tells, now}
+use denote.Ref.{RefT, MutRef, ptr-vals, mut-tells, now}
 use denote.Slice.{sliceVal, ShrSlice}
 use denote.Signature.{Slot, plain, namedLft, mutRefTo, shrSliceOf}
 use denote.Steps.{only, opens, closes, owned, peeks, heard, nothing}

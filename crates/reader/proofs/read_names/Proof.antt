@@ -26,7 +26,7 @@ use denote.Memory.{lone}
 use denote.Laws.{Is, shows}
 use denote.Plain.{uint-vals, uint-tells, uint-makes}
 use denote.Builtin.{u8, usize}
-use denote.Ref.{RefT, NamedLft, now}
+use denote.Ref.{RefT, now}
 use denote.Signature.{plain}
 use denote.Slice.{sliceVal, ShrSlice, slice-vals, shr-slice-tells, shr-slice-lawful, shr-slice-copy}
 use denote.Steps.{only, owned, peeks, heard, nothing}
@@ -38,7 +38,7 @@ use denote.Triple.Clauses.{ensured, lasts}
 use denote.Triple.Entry.{onEntry}
 use denote.Triple.Spec.{Meets, tripleOf}
 use denote.Triple.Table.{entered, cited}
-use denote.Triple.Walked.{says, Stays, stay-none, stay-none-slice, walkOf, goes-none, goes-none-slice, Walks, ends-at, walked, walk-meets}
+use denote.Triple.Walked.{says, Stays, stay-none, stay-none-slice, walkOf, goes-none, goes-none-slice, ends-at, walked, walk-meets}
 use denote.Exit.{yes}
 use Rattle.fields.specs.Parse.{Parse, got, fails, then}
 use Rattle.fields.specs.Fields.{stringField}
@@ -49,7 +49,6 @@ use Rattle.fields.proofs.SpanField as S
 use Rattle.fields.proofs.SpanField.Laws as S′
 use Rattle.descriptor.specs.Descriptor.{namesField}
 use Rattle.descriptor.specs.Inner.{saysNames}
-use Rattle.descriptor.specs.declared.GridNames.{GridNames}
 use Rattle.descriptor.specs.declared.NamesField.{NamesField}
 use Rattle.descriptor.proofs.NamesField as N
 use Rattle.descriptor.proofs.NamesField.Laws as N′
@@ -59,7 +58,7 @@ use Rattle.reader.proofs.Reader as T
 use Rattle.reader.proofs.Reader.Laws as T′
 use Rattle.reader.proofs.Field.{D, L, R, Held, Told, Read, moves}
 use Rattle.reader.proofs.Sorts.{string}
-use Rattle.reader.proofs.Lent.{Cell, lent}
+use Rattle.reader.proofs.Lent.{lent}
 use Rattle.reader.proofs.new as new
 use Rattle.reader.proofs.new.Symbol as new-def
 use Rattle.reader.proofs.new.Met as new-thm
