@@ -26,7 +26,7 @@ pub fn new<'a>(src: &'a [u8]) -> Reader<'a>
     Reader { src, at: 0 }
 }
 
-// Where a reader that stood at `at` stands after a field.
+// Where a reader that stood at `at` stands after a field. The borrow checker covers these, so that the functions over a reader need no branch.
 fn after_u32(f: U32Field, at: usize) -> usize
     ensures { λ r. ⌜ r ≡ behind (saysU32 f) at ⌝ }
 {
@@ -63,7 +63,8 @@ fn after_d_vec3(f: DVec3Field, at: usize) -> usize
     }
 }
 
-// The fields of section 1, with the names of the Rust.
+// The fields of section 1, with the names of the Rust: what stands at the reader's position. The reader is moved on behind it; a field that runs past the
+// end leaves the reader where it stood.
 pub fn read_u32<'s, 'a>(reader: &'s mut Reader<'a>) -> U32Field
     ensures { λ f. ⌜ (saysU32 f, now (reader .exit)) ≡ reading u32Field (now (reader .entry)) ⌝ }
 {
