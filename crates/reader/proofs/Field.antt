@@ -171,7 +171,7 @@ module _ (K : Kind) where
     pub after-said : (n : ℕ) → ent 𝓤 (ensured 𝓤 H A after-ended (after-clauses 𝓤) tt (f, (at, tt)) tt n) (fact 𝓤 (n ≡ behind (K .tells f) at))
     after-said n = exE 𝓤 _ (λ ws. snd∗ 𝓤 (sem 𝓤 H A (lasts after-ended tt (f, (at, tt)) ws)) (fact 𝓤 (n ≡ behind (K .tells f) at)))
 
-  -- the MIR
+  -- the MIR: `Code.function` of each read is this at its kind, by computation
   abbrev τ : Ty
   τ = lone (F .mir)
 
