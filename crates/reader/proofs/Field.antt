@@ -64,7 +64,7 @@ pub record Kind : Type 2 where
   pub #core : Name
   pub #after : Name
 
--- the struct at 'a: its type, its laws, what it is to a proof, and as a place in a signature
+-- the struct at 'a: its type, its laws, its row; and lent, as a place in the signature
 module _ (κ : Lft) where
   abbrev pub D : SD.Declared
   D = T.the-type (record { mir = named 1; lft = κ })
@@ -97,7 +97,7 @@ module _ {M : Type 1} (𝓤 : URA M) (H : Heap 𝓤) (A : Atoms 𝓤) (W : Given
       qed W (‵ (Held κ h) ∷ []) ∵ owned ! usize (Is usize) (uint-makes 𝓤 H A W w64) n _ (refl, fits) $ move ! (1 ∷ 0 ∷ []) $
       by ! (own-put 𝓤 H A W (D κ) (L κ) 1 (h .src, (h .at, tt)) n (T′.lowered h))
 
--- what a read says, of the parse p of its field: p, and the reader's position, are `reading`'s
+-- what a read promises: the parse p of its field and the reader h′ that it leaves are those of `reading`; and how that follows from what the callees say
 abbrev pub Told : {X : Type 0} → (List ℕ → ℕ → Parse X) → Reader → Parse X → Reader → Type 0
 Told {X} reads h p h′ = _≡_ {A = Parse X × Reader} (p, h′) (reading reads h)
 
