@@ -1,7 +1,8 @@
 -- Laws of the definitions, by which the functions' proofs go.
-use mathlib.Core.Path.{_≡_, refl, sym, ap, ap₂, _∙_}
+use mathlib.Core.Path.{_≡_, refl, sym, ap, _∙_}
 use mathlib.Core.List.{List}
 use mathlib.Core.Bool.{true, not}
+use native.Mathlib.Nat.{zero-add}
 use native.Mathlib.Omega.{arith}
 use mathlib.Core.Option.{Option, none, some}
 use Prim.Native.Nat.{ℕ, _≤_}
@@ -11,7 +12,6 @@ use borrow.Author.Tests.{leb-true}
 use Rattle.fields.specs.Parse.{Parse, got, fails, then}
 use Rattle.fields.specs.Fields.{bytesOf}
 use Rattle.fields.proofs.Laws.{check-passes, through, made-at, made-then, Always, then-always, check-always}
-use Rattle.nodes.specs.declared.Block.{Block}
 use Rattle.archive.specs.Answer.{Answer, gives, refuses, answer, with, present}
 use Rattle.header.specs.Header.{header}
 use Rattle.archive.specs.Archive.{File, file, AskedFile, askedOf, fileAsked}
@@ -24,7 +24,7 @@ use Rattle.tree.specs.Topology.{Tree}
 use Rattle.tree.specs.Blocks.{Filled5}
 use Rattle.tree.specs.Active.{allBlocks}
 use Rattle.tree.specs.Inner.{Summary, over, plusBlock, traversedOf}
-use Rattle.tree.proofs.Counting.{blocks-passed, active-length, found-at}
+use Rattle.tree.proofs.Counting.{blocks-passed, summary-leaves, active-length, found-at}
 use Rattle.grid.specs.Grid.{Grid, isFloatTree, isPacked, codingOf, contentField, gridField, grid, activeOf, placeAfter, openedOf, openGrid}
 use Rattle.grid.specs.Inner.{contentOf, openedBy, Looked, looked, passedOf, passedField, lookField, look}
 use Rattle.place.proofs.Places.{after-none}
@@ -41,19 +41,23 @@ content-passed s c d wanted =
     (made-then _ _ _ ∙ made-at _ (λ filled r. passedOf c map p (d .«block_pos») (traversedOf s c wanted (d .«block_pos») tree) (summed s wanted filled))
     (λ filled r. record { coding = c; map = map; mapEnd = p; tree = tree; treeEnd = q; block = d .«block_pos»; filled = filled; blocksEnd = r }) (looked s wanted)
     λ filled r e.
-    ap₂ (λ (n : ℕ) (l : Option Block). record {
+    let count = sym (active-length s c wanted (d .«block_pos») (tree .roots) filled r e) in
+    let leaves = summary-leaves s wanted (allBlocks filled) _ ∙ zero-add (length (allBlocks filled)) in
+    let leaf = found-at s wanted (allBlocks filled) in
+    λ i. record {
       content = record {
         coding = c;
         transform = map;
         «transform_end» = p;
         background = tree .head .background;
-        «active_count» = n;
+        «active_count» = count i;
+        «leaf_count» = leaves i;
         «roots_pos» = tree .head .«roots_pos»;
         «root_count» = tree .head .«root_count»;
         «block_pos» = d .«block_pos»;
       };
-      leaf = l;
-    }) (sym (active-length s c wanted (d .«block_pos») (tree .roots) filled r e)) (found-at s wanted (allBlocks filled)))
+      leaf = leaf i;
+    })
 
 -- where the descriptor's checks pass, the grid is its content
 pub grid-looked :

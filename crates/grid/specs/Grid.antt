@@ -107,13 +107,14 @@ unfoldable pub placeAfter : List ℕ → Grid → ℕ → Place
 placeAfter s g m = placeFrom s (g .coding) (g .tree .head .«roots_pos») (g .tree .head .«root_count») (g .block) (length (activeOf s g)) m
 
 -- Section 7: what opening a grid hands out: the transform, the background, the length of the active list, and the place of a walk before its first
--- record; and where the transform ends, whose doubles stand before that.
+-- record; and where the transform ends, whose doubles stand before that, and how many leaves there are to fill from.
 abbrev pub openedOf : List ℕ → Grid → OpenedGrid
 openedOf s g = record {
   transform = g .map;
   «transform_end» = g .mapEnd;
   background = g .tree .head .background;
   «active_count» = length (activeOf s g);
+  «leaf_count» = length (allBlocks (g .filled));
   place = placeAfter s g 0;
 }
 

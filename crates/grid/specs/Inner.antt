@@ -12,6 +12,7 @@ use Rattle.transform.specs.Transform.{transform}
 use Rattle.transform.specs.declared.Map.{Map}
 use Rattle.values.specs.declared.Coding.{Coding}
 use Rattle.nodes.specs.declared.Block.{Block}
+use Rattle.tree.specs.Active.{allBlocks}
 use Rattle.tree.specs.Inner.{Summary, Traversed, traversal, saysLeaf}
 use Rattle.place.specs.Inner.{freshPlace}
 use Rattle.grid.specs.Grid.{Grid, rootLimit, gridField, grid, activeOf, leafNumbered}
@@ -28,6 +29,7 @@ contentOf g n = record {
   «transform_end» = g .mapEnd;
   background = g .tree .head .background;
   «active_count» = n;
+  «leaf_count» = length (allBlocks (g .filled));
   «roots_pos» = g .tree .head .«roots_pos»;
   «root_count» = g .tree .head .«root_count»;
   «block_pos» = g .block;
@@ -40,6 +42,7 @@ openedBy c = record {
   «transform_end» = c .«transform_end»;
   background = c .background;
   «active_count» = c .«active_count»;
+  «leaf_count» = c .«leaf_count»;
   place = freshPlace (c .coding) (c .«roots_pos») (c .«root_count») (c .«block_pos») (c .«active_count»);
 }
 
@@ -60,6 +63,7 @@ passedOf c map end block t m = record {
     «transform_end» = end;
     background = t .head .background;
     «active_count» = t .totals .activeTiles + m .voxels;
+    «leaf_count» = m .leaves;
     «roots_pos» = t .head .«roots_pos»;
     «root_count» = t .head .«root_count»;
     «block_pos» = block;

@@ -24,13 +24,14 @@ use tree::Topology;
 use tree::TopologyField;
 use values::Coding;
 
-// An opened grid: its transform and where that ends, its background's pattern, the length of its active list, and the place of a walk before its
-// first record. The patterns of the transform's doubles are the last 120 bytes before its end, or the last 144.
+// An opened grid: its transform and where that ends, its background's pattern, the length of its active list, how many leaves it has, and the place of a
+// walk before its first record. The patterns of the transform's doubles are the last 120 bytes before its end, or the last 144.
 pub struct OpenedGrid {
     pub transform: Map,
     pub transform_end: usize,
     pub background: u32,
     pub active_count: u64,
+    pub leaf_count: u64,
     pub place: Place,
 }
 
@@ -41,6 +42,7 @@ pub struct Content {
     pub transform_end: usize,
     pub background: u32,
     pub active_count: u64,
+    pub leaf_count: u64,
     pub roots_pos: usize,
     pub root_count: u32,
     pub block_pos: usize,
@@ -146,6 +148,7 @@ fn found_in(c: Coding, map: Map, end: usize, block_pos: usize, t: Topology) -> F
                 transform_end: end,
                 background: head.background,
                 active_count: pass.active_tiles + blocks.voxels,
+                leaf_count: blocks.leaves,
                 roots_pos: head.roots_pos,
                 root_count: head.root_count,
                 block_pos,
@@ -205,6 +208,7 @@ fn opened(content: Content) -> OpenedGrid
         transform_end: content.transform_end,
         background: content.background,
         active_count: content.active_count,
+        leaf_count: content.leaf_count,
         place,
     }
 }
