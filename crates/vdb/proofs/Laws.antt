@@ -1,0 +1,110 @@
+-- Laws of the definitions, by which the functions' proofs go.
+use mathlib.Core.Path.{_≡_, refl, sym, ap, _∙_}
+use mathlib.Core.List.{List, [], _∷_, _++_, append-assoc}
+use Prim.Native.Nat.{ℕ, suc, _+_, _≤_, _<_}
+use native.Mathlib.Numerals.{add-one}
+use native.Mathlib.Omega.{arith}
+use lib.ListN.{length, take, set}
+use lib.Seq.{take-all, take-suc-set}
+use Rattle.archive.specs.Answer.{Answer, gives, refuses}
+use Rattle.fields.proofs.Laws.{told}
+use Rattle.metadata.specs.declared.MetadataValue.{MetadataValue}
+use Rattle.grid.specs.Answers.{saysGridAnswer, saysFill, keptBy}
+use Rattle.grid.specs.declared.OpenedGrid.{OpenedGrid}
+use Rattle.grid.specs.declared.GridAnswer.{GridAnswer}
+use Rattle.grid.specs.declared.GridAnswer.the-variants.{Grid as GridIs, Refused as GridRefused}
+use Rattle.grid.specs.declared.FillAnswer.{FillAnswer}
+use Rattle.grid.specs.declared.FillAnswer.the-variants.{Filled as IsFilled, Refused as FillRefused}
+use Rattle.place.specs.declared.Place.{Place}
+use Rattle.records.specs.Slots.{Slots}
+use Rattle.walk.specs.Walk.{saysWalk, Promise}
+use Rattle.walk.specs.declared.Walked.{Walked}
+use Rattle.walk.specs.declared.WalkAnswer.{WalkAnswer}
+use Rattle.walk.specs.declared.WalkAnswer.the-variants.{Walked as HasWalked, Refused as WalkRefused}
+use Rattle.words.specs.Words.{placeOf, wordsOf}
+use Rattle.vdb.specs.Vdb.{laid, entryWords, table, openedWords, OpenCall, WalkCall}
+
+-- a call's answer r, which says m, and of which it is known which answer v it is
+pub laid-by :
+    {E A : Type 0} (says : E → Answer A) {B : Type 0} {m : Answer A} (words : A → B) (lent : B) {x : ℕ × B} {r v : E} → says r ≡ m → r ≡ v → x ≡ laid (says v) words lent →
+    x ≡ laid m words lent
+laid-by says words lent h e k = k ∙ ap (λ (p : Answer _). laid p words lent) (told says e h)
+
+pub laid-on : {A B : Type 0} (words : A → B) (lent : B) {w : B} {a : A} → w ≡ words a → (0, w) ≡ laid (gives a) words lent
+unfolding laid
+laid-on words lent e = ap (λ (w : _). (0, w)) e
+
+pub laid-stop : {A B : Type 0} (words : A → B) (lent : B) {k : ℕ} → (k, lent) ≡ laid (refuses k) words lent
+unfolding laid
+laid-stop words lent = refl
+
+pub ruleset answers = (laid-on, laid-stop)
+
+-- an entry's words, once it is known which value it is
+pub entry-by : {v u : MetadataValue} {w : List ℕ} → v ≡ u → w ≡ entryWords u → w ≡ entryWords v
+entry-by e h = rw e h
+
+-- a walk call from the place p of these words, by its answer a
+module _ {s words : List ℕ} (counts : List ℕ) {before after : Slots} {p : Place} {a : WalkAnswer} (e : p ≡ placeOf words) (h : Promise s p before a after) where
+  pub walk-refused : {k : ℕ} → a ≡ WalkRefused k → WalkCall s words counts before k words counts after
+  walk-refused x = record {
+    answer = a;
+    walked = rw (← e) h;
+    left = rw x (laid-stop _ _);
+    stands = λ w y. let z : _≡_ {A = ℕ} 0 1 = cc (ap saysWalk x) in absurd (omega arith);
+  }
+
+  pub walk-gave :
+      {w : Walked} {words′ : List ℕ} → a ≡ HasWalked w → (words′ ≡ wordsOf (w .place)) × (placeOf words′ ≡ w .place) →
+      WalkCall s words counts before 0 words′ (w .filled ∷ w .left ∷ []) after
+  walk-gave {w} x y = record {
+    answer = a;
+    walked = rw (← e) h;
+    left = rw x (laid-on _ _ (ap (λ (l : List ℕ). (l, w .filled ∷ w .left ∷ [])) (y .0)));
+    stands = λ v z. let u : w ≡ v = cc (ap saysWalk x) in y .1 ∙ ap (λ (w : Walked). w .place) u;
+  }
+
+-- a call that opens a grid, by its answer a
+module _ {s : List ℕ} {m : Answer OpenedGrid} (out place : List ℕ) {a : GridAnswer} (h : saysGridAnswer a ≡ m) where
+  pub open-refused : {k : ℕ} → a ≡ GridRefused k → OpenCall s m out place k out place
+  open-refused x = record {
+    left = laid-by saysGridAnswer _ _ h x (laid-stop _ _);
+    stands = λ g y. let z : _≡_ {A = ℕ} 0 1 = cc (ap saysGridAnswer x) in absurd (omega arith);
+  }
+
+  pub open-gave :
+      {g : OpenedGrid} {out′ place′ : List ℕ} → a ≡ GridIs g → out′ ≡ openedWords s g → (place′ ≡ wordsOf (g .place)) × (placeOf place′ ≡ g .place) →
+      OpenCall s m out place 0 out′ place′
+  open-gave {g} x y z = record {
+    left = laid-by saysGridAnswer _ _ h x (laid-on _ _ (λ i. (y i, z .0 i)));
+    stands = λ v w. let u : g ≡ v = cc (ap saysGridAnswer x) in z .1 ∙ ap (λ (g : OpenedGrid). g .place) u;
+  }
+
+-- the 18 words behind the first five: one more is written, or all are
+module _ (f : ℕ → ℕ) (head out : List ℕ) (i : ℕ) where
+  pub table-more :
+      (v : ℕ) → i < 18 → length out ≡ 23 → take (5 + i) out ≡ head ++ table f i → v ≡ f i → take (5 + (i + 1)) (set out (5 + i) v) ≡ head ++ table f (i + 1)
+  unfolding table
+  table-more v l n e x =
+      let k : 5 + (i + 1) ≡ suc (5 + i) = omega arith in
+      let h : 5 + i < length out = omega arith in
+      rw (k, take-suc-set out (5 + i) v h, e, x, add-one i, append-assoc)
+
+  pub table-all : 18 ≤ i → i ≤ 18 → length out ≡ 23 → take (5 + i) out ≡ head ++ table f i → out ≡ head ++ table f 18
+  table-all l h n e =
+      let k : i ≡ 18 = omega arith in
+      sym (take-all 23 out (omega arith)) ∙ (rw k at e)
+
+-- a fill, by its answer a
+module _ {m : Answer (List ℕ)} (before after : List ℕ) {a : FillAnswer} (h : (saysFill a after ≡ m) × keptBy a before after) where
+  pub fill-refused : {k : ℕ} → a ≡ FillRefused k → (k, after) ≡ laid m (λ values. values) before
+  unfolding laid
+  fill-refused {k} x =
+      let y : (saysFill (FillRefused k) after ≡ m) × keptBy (FillRefused k) before after = rw x at h in
+      rw (← y .0, y .1)
+
+  pub fill-filled : a ≡ IsFilled → (0, after) ≡ laid m (λ values. values) before
+  unfolding laid
+  fill-filled x =
+      let y : (saysFill IsFilled after ≡ m) × keptBy IsFilled before after = rw x at h in
+      rw (← y .0)

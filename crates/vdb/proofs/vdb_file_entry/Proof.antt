@@ -1,0 +1,13 @@
+use borrow.Author.Needs.{needs}
+use Rattle.archive.specs.Answers.{saysEntryAnswer}
+use Rattle.vdb.proofs.Laws.{answers, laid-by}
+use Rattle.vdb.proofs.vdb_file_entry.Statement.{statement}
+use Rattle.vdb.proofs.vdb_file_entry.Tie as tie
+
+pub vdb-file-entry-spec : {M : Type 1} → statement M
+vdb-file-entry-spec =
+    tie.close
+    (tie.spec
+    (λ c κs. search needs) (λ c. search needs) (λ c. search needs) (λ c κs. search needs)
+    (λ c. search (answers, laid-by saysEntryAnswer))
+    (λ c. search (answers, laid-by saysEntryAnswer)))

@@ -1,0 +1,33 @@
+use borrow.Author.Needs.{needs}
+use Rattle.vdb.proofs.Laws.{walk-refused, walk-gave}
+use Rattle.vdb.proofs.vdb_walk.Statement.{statement}
+use Rattle.vdb.proofs.vdb_walk.Tie as tie
+
+-- back from where it is known which answer it is: to the call, and to the place before it
+abbrev walked : tie.At-match-keys1 → tie.After-walk
+walked c = c .before .before .before .before .before .before .before .before
+
+abbrev walked-on : tie.At-match-keys2 → tie.After-walk
+walked-on c = c .before .before .before .before .before .before .before .before
+
+abbrev placed : tie.After-walk → tie.After-place-of
+placed c = c .before .before .before .before .before .before
+
+returns : tie.Need-returns
+returns c =
+    let w = walked (c .before .before) in
+    walk-refused _ (placed w .place-of .ensures) (w .walk .ensures) (c .before .k .given .1)
+
+returns-2 : tie.Need-returns-2
+returns-2 c =
+    let known = c .before .before .before .before in
+    let w = walked-on (known .before) in
+    walk-gave _ (placed w .place-of .ensures) (w .walk .ensures) (known .w .given .1) (c .before .words-of .ensures)
+
+pub vdb-walk-spec : {M : Type 1} → statement M
+vdb-walk-spec =
+    tie.close
+    (tie.spec
+    (λ c κs. search needs) (λ c κs. search needs) (λ c. search needs) (λ c. search needs) (λ c κs. search needs)
+    (λ c. search needs) (λ c. search needs) (λ c. search needs) (λ c. search needs) (λ c. search needs) returns
+    (λ c. search needs) (λ c. search needs) (λ c. search needs) (λ c. search needs) (λ c. search needs) returns-2)

@@ -1,0 +1,2 @@
+pub mod Vdb
+pub mod Inner

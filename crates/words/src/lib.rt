@@ -1,0 +1,222 @@
+// A walk's place as 32 words of 64 bits, for a caller that keeps it as plain numbers: in another language, or in a file. Any 32 words are some place:
+// a word of a smaller field counts by its low 32 bits. What a place is turned into is turned back into the same place.
+ghost use mathlib.Core.Path.{_≡_};
+ghost use Rattle.fields.specs.Le.{signed};
+ghost use Rattle.words.specs.Words.{pattern, low32, at, coordsOf, enteredOf, cursorOf, insideOf, placeOf, coordWords, enteredWords, cursorWords, insideWords, wordsOf};
+use coordinates::GlobalCoord;
+use cursor::Cursor;
+use cursor::Entered;
+use place::Place;
+use records::Inside;
+use values::Coding;
+
+// A signed number's pattern in two's complement.
+pub fn pattern_of(x: i64) -> u64
+    ensures { λ r. ⌜ r ≡ pattern x ⌝ }
+{
+    if x < 0 {
+        return 0xffff_ffff_ffff_ffff - (!x) as u64;
+    }
+    x as u64
+}
+
+fn low(w: u64) -> u32
+    ensures { λ r. ⌜ r ≡ low32 w ⌝ }
+{
+    (w % 0x1_0000_0000) as u32
+}
+
+fn coord(w: u64) -> i32
+    ensures { λ r. ⌜ r ≡ signed 31 (low32 w) ⌝ }
+{
+    fields::i32_of(low(w))
+}
+
+fn coords_of(x: u64, y: u64, z: u64) -> GlobalCoord
+    ensures { λ r. ⌜ r ≡ coordsOf x y z ⌝ }
+{
+    GlobalCoord(coord(x), coord(y), coord(z))
+}
+
+fn entered_of(x: u64, y: u64, z: u64, pos: u64, next: u64) -> Entered
+    ensures { λ r. ⌜ r ≡ enteredOf x y z pos next ⌝ }
+{
+    let origin = coords_of(x, y, z);
+    Entered {
+        origin,
+        pos: pos as usize,
+        next: low(next),
+    }
+}
+
+fn cursor_of(w: [u64; 32]) -> Cursor
+    ensures { λ r. ⌜ r ≡ cursorOf w 8 ⌝ }
+{
+    let node5 = entered_of(w[10], w[11], w[12], w[13], w[14]);
+    let node4 = entered_of(w[15], w[16], w[17], w[18], w[19]);
+    Cursor {
+        depth: low(w[8]),
+        roots_left: low(w[9]),
+        node5,
+        node4,
+        topology_pos: w[20] as usize,
+        block_pos: w[21] as usize,
+    }
+}
+
+fn inside_of(w: [u64; 32]) -> Inside
+    ensures { λ r. ⌜ r ≡ insideOf w 22 ⌝ }
+{
+    let origin = coords_of(w[23], w[24], w[25]);
+    Inside {
+        level: low(w[22]),
+        origin,
+        child: w[26] as usize,
+        value: w[27] as usize,
+        stored: low(w[28]),
+        start: w[29] as usize,
+        from: low(w[30]),
+        number: w[31] as usize,
+    }
+}
+
+// The place that these words stand for.
+pub fn place_of(w: [u64; 32]) -> Place
+    ensures { λ r. ⌜ r ≡ placeOf w ⌝ }
+{
+    let coding = Coding {
+        version: low(w[0]),
+        flags: low(w[1]),
+        width: w[2] as usize,
+    };
+    let cursor = cursor_of(w);
+    let inside = inside_of(w);
+    Place {
+        coding,
+        roots_pos: w[3] as usize,
+        root_count: low(w[4]),
+        block_pos: w[5] as usize,
+        length: w[6],
+        left: w[7],
+        cursor,
+        inside,
+    }
+}
+
+// The word of a number of 32 bits, from which it comes back.
+fn word(x: u32) -> u64
+    ensures { λ r. ⌜ (r ≡ x) × (low32 r ≡ x) ⌝ }
+{
+    x as u64
+}
+
+// The same for a coordinate.
+pub fn coord_word(x: i32) -> u64
+    ensures { λ r. ⌜ (r ≡ pattern x) × (signed 31 (low32 r) ≡ x) ⌝ }
+{
+    pattern_of(x as i64)
+}
+
+// The words of a coordinate, a node, a cursor and a place in a piece, from each of which it comes back.
+fn coord_words(o: GlobalCoord) -> [u64; 3]
+    ensures { λ r. ⌜ (r ≡ coordWords o) × (coordsOf (at r 0) (at r 1) (at r 2) ≡ o) ⌝ }
+{
+    [coord_word(o.0), coord_word(o.1), coord_word(o.2)]
+}
+
+fn entered_words(e: Entered) -> [u64; 5]
+    ensures { λ r. ⌜ (r ≡ enteredWords e) × (enteredOf (at r 0) (at r 1) (at r 2) (at r 3) (at r 4) ≡ e) ⌝ }
+{
+    let origin = e.origin;
+    let o = coord_words(origin);
+    [o[0], o[1], o[2], e.pos as u64, word(e.next)]
+}
+
+fn cursor_words(c: Cursor) -> [u64; 14]
+    ensures { λ r. ⌜ (r ≡ cursorWords c) × (cursorOf r 0 ≡ c) ⌝ }
+{
+    let node5 = c.node5;
+    let node4 = c.node4;
+    let n = entered_words(node5);
+    let m = entered_words(node4);
+    [
+        word(c.depth),
+        word(c.roots_left),
+        n[0],
+        n[1],
+        n[2],
+        n[3],
+        n[4],
+        m[0],
+        m[1],
+        m[2],
+        m[3],
+        m[4],
+        c.topology_pos as u64,
+        c.block_pos as u64,
+    ]
+}
+
+fn inside_words(w: Inside) -> [u64; 10]
+    ensures { λ r. ⌜ (r ≡ insideWords w) × (insideOf r 0 ≡ w) ⌝ }
+{
+    let origin = w.origin;
+    let o = coord_words(origin);
+    [
+        word(w.level),
+        o[0],
+        o[1],
+        o[2],
+        w.child as u64,
+        w.value as u64,
+        word(w.stored),
+        w.start as u64,
+        word(w.from),
+        w.number as u64,
+    ]
+}
+
+// A place's words, which stand for it.
+pub fn words_of(p: Place) -> [u64; 32]
+    ensures { λ r. ⌜ (r ≡ wordsOf p) × (placeOf r ≡ p) ⌝ }
+{
+    let coding = p.coding;
+    let cursor = p.cursor;
+    let inside = p.inside;
+    let c = cursor_words(cursor);
+    let w = inside_words(inside);
+    [
+        word(coding.version),
+        word(coding.flags),
+        coding.width as u64,
+        p.roots_pos as u64,
+        word(p.root_count),
+        p.block_pos as u64,
+        p.length,
+        p.left,
+        c[0],
+        c[1],
+        c[2],
+        c[3],
+        c[4],
+        c[5],
+        c[6],
+        c[7],
+        c[8],
+        c[9],
+        c[10],
+        c[11],
+        c[12],
+        c[13],
+        w[0],
+        w[1],
+        w[2],
+        w[3],
+        w[4],
+        w[5],
+        w[6],
+        w[7],
+        w[8],
+        w[9],
+    ]
+}
