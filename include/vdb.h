@@ -92,9 +92,9 @@ enum {
     VDB_OPENED_BACKGROUND,   /* the background, a float's pattern */
     VDB_OPENED_ACTIVE_COUNT, /* how many records the active list has */
     VDB_OPENED_LEAF_COUNT,   /* how many leaves there are; they are numbered from 0 */
-    VDB_OPENED_MAP,          /* which map the transform is: VDB_SCALE or VDB_SCALE_TRANSLATE */
-    VDB_OPENED_DOUBLES_AT,   /* where its doubles stand in the file */
-    VDB_OPENED_DOUBLES,      /* and from here on their patterns: 15 of them, or 18; then 0 */
+    VDB_OPENED_MAP,          /* which map the transform is, by the number of its doubles: VDB_SCALE or VDB_SCALE_TRANSLATE */
+    VDB_OPENED_DOUBLES_AT,   /* where these stand in the file */
+    VDB_OPENED_DOUBLES,      /* and from here on their patterns, bit for bit; words past them are 0 */
     VDB_OPENED_WORDS = VDB_OPENED_DOUBLES + 18
 };
 
@@ -102,7 +102,7 @@ enum {
  * The transform is one of two maps. Its doubles are vectors of x, y and z: the scale, the voxel size, the scale's inverse, the inverse of its square,
  * half the inverse. With VDB_SCALE_TRANSLATE the translation comes first.
  */
-enum { VDB_SCALE, VDB_SCALE_TRANSLATE };
+enum { VDB_SCALE = 15, VDB_SCALE_TRANSLATE = 18 };
 
 /*
  * A place of a walk, as words for the caller to keep: in memory, or in a file, whose reader then goes on with the walk. It holds all that the walk

@@ -26,6 +26,11 @@ CALLS = [
     'grid::open_grid_named', 'grid::open_grid_numbered',
     'grid::fill_leaf_named', 'grid::fill_leaf_numbered',
     'walk::walk',
+    'vdb::vdb_open_file', 'vdb::vdb_grid_named', 'vdb::vdb_grid_numbered',
+    'vdb::vdb_file_entry', 'vdb::vdb_grid_entry_named', 'vdb::vdb_grid_entry_numbered',
+    'vdb::vdb_open_grid_named', 'vdb::vdb_open_grid_numbered',
+    'vdb::vdb_walk',
+    'vdb::vdb_fill_leaf_named', 'vdb::vdb_fill_leaf_numbered',
 ]
 
 # Theorems that a reader is pointed to, by crate and name: of these, the statement is looked at, with the
@@ -266,7 +271,7 @@ def contract_of(crates, call):
     """What names stand for in the source that has this function, and the clauses of its contract."""
     crate, name = call.split('::')
     for source in crates.sources.get(crate, []):
-        head = re.search(r'^\s*pub fn %s\b.*?^\{' % re.escape(name), source, re.S | re.M)
+        head = re.search(r'^\s*pub (?:extern "C" )?fn %s\b.*?^\{' % re.escape(name), source, re.S | re.M)
         if head:
             scope = Scope(crate)
             for line in re.findall(r'^ghost (use [^;]*);', source, re.M):

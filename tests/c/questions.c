@@ -1,0 +1,190 @@
+/*
+ * Asks libvdb.a the questions of the program `questions` about the files of crates/questions/data, and writes each with the answer behind it.
+ *
+ *     questions DATA < QUESTIONS
+ *
+ * A question is a line of crates/questions/stdin: a word, numbers, and behind a colon bytes, in quotes or as hexadecimal digits, with a comma between a
+ * grid's name and an entry's. An opened grid is shown without the number of its roots.
+ */
+#include <inttypes.h>
+#include <stdio.h>
+#include <stdlib.h>
+#include <string.h>
+
+#include "vdb.h"
+
+enum { ROOM = 1 << 18, SLOTS = 600 };
+
+static uint8_t file[ROOM];
+static size_t file_len;
+
+/* A question: its command, its numbers, and the bytes of the grid's name and of the name. */
+struct question {
+    char command[16];
+    uint64_t n[4];
+    int numbers;
+    uint8_t bytes[2][256];
+    size_t len[2];
+    int names;
+};
+
+static void stop(const char *what)
+{
+    fprintf(stderr, "questions: %s\n", what);
+    exit(1);
+}
+
+static struct question parse(const char *line)
+{
+    struct question q;
+    int used = 0, digit = -1;
+    memset(&q, 0, sizeof q);
+    sscanf(line, "%15[A-Za-z]%n", q.command, &used);
+    line += used;
+    while (q.numbers < 4 && sscanf(line, " %" SCNu64 "%n", &q.n[q.numbers], &used) == 1) {
+        q.numbers++;
+        line += used;
+    }
+    if (*line != ':') return q;
+    q.names = 1;
+    for (line++; *line != '\0' && *line != '\n'; line++) {
+        uint8_t *to = q.bytes[q.names - 1];
+        size_t *len = &q.len[q.names - 1];
+        if (*len == sizeof q.bytes[0]) stop("a long name");
+        if (*line == '"') {
+            for (line++; *line != '"'; line++) to[(*len)++] = (uint8_t)*line;
+        } else if (*line == ',') {
+            q.names = 2;
+        } else if (*line != ' ') {
+            int value = *line <= '9' ? *line - '0' : *line - 'a' + 10;
+            if (digit >= 0) to[(*len)++] = (uint8_t)(16 * digit + value);
+            digit = digit >= 0 ? -1 : value;
+        }
+    }
+    return q;
+}
+
+static void load(const char *folder, const struct question *q)
+{
+    char path[1024];
+    FILE *f;
+    snprintf(path, sizeof path, "%s/%.*s", folder, (int)q->len[0], (const char *)q->bytes[0]);
+    f = fopen(path, "rb");
+    if (f == NULL) stop(path);
+    file_len = fread(file, 1, ROOM, f);
+    fclose(f);
+}
+
+static void span(uint64_t start, uint64_t len)
+{
+    printf(" %" PRIu64 " %" PRIu64 " \"", start, len);
+    for (uint64_t i = start; i < start + len; i++) {
+        if (file[i] >= ' ' && file[i] <= '~') putchar(file[i]);
+        else printf("\\%02x", file[i]);
+    }
+    putchar('"');
+}
+
+static int refused(uint32_t k)
+{
+    if (k != 0) printf(" refused %" PRIu32, k);
+    return k != 0;
+}
+
+static void header(void)
+{
+    uint64_t h[VDB_FILE_WORDS];
+    if (refused(vdb_open_file(file, file_len, h))) return;
+    printf(" %" PRIu64 " %" PRIu64 " %" PRIu64 " %" PRIu64 " %" PRIu64 " %" PRIu64, h[VDB_FILE_VERSION], h[VDB_FILE_LIBRARY_MAJOR],
+           h[VDB_FILE_LIBRARY_MINOR], h[VDB_FILE_PACKED], h[VDB_FILE_METADATA], h[VDB_FILE_GRID_COUNT]);
+    span(h[VDB_FILE_IDENTITY_START], h[VDB_FILE_IDENTITY_LEN]);
+}
+
+static void descriptor(const struct question *q)
+{
+    uint64_t d[VDB_GRID_WORDS];
+    uint32_t k = q->numbers == 1 ? vdb_grid_numbered(file, file_len, (uint32_t)q->n[0], d)
+                                 : vdb_grid_named(file, file_len, q->bytes[0], q->len[0], d);
+    if (refused(k)) return;
+    span(d[VDB_GRID_NAME_START], d[VDB_GRID_NAME_LEN]);
+    span(d[VDB_GRID_TYPE_START], d[VDB_GRID_TYPE_LEN]);
+    span(d[VDB_GRID_PARENT_START], d[VDB_GRID_PARENT_LEN]);
+    printf(" %" PRIu64 " %" PRIu64 " %" PRIu64 " %" PRIu64 " %" PRIu64 " %" PRIu64, d[VDB_GRID_POSITION], d[VDB_GRID_BLOCK_POSITION],
+           d[VDB_GRID_END_POSITION], d[VDB_GRID_FLAGS], d[VDB_GRID_METADATA], d[VDB_GRID_TREE]);
+}
+
+static void entry(const struct question *q)
+{
+    uint64_t e[VDB_ENTRY_WORDS];
+    uint32_t k = q->command[0] == 'e'  ? vdb_file_entry(file, file_len, q->bytes[0], q->len[0], e)
+                 : q->numbers == 1 ? vdb_grid_entry_numbered(file, file_len, (uint32_t)q->n[0], q->bytes[0], q->len[0], e)
+                                   : vdb_grid_entry_named(file, file_len, q->bytes[0], q->len[0], q->bytes[1], q->len[1], e);
+    const uint64_t *v = &e[VDB_ENTRY_VALUE];
+    if (refused(k)) return;
+    printf(" %c", "sbilfvo"[e[VDB_ENTRY_KIND]]);
+    switch (e[VDB_ENTRY_KIND]) {
+    case VDB_BOOL:
+    case VDB_INT32:
+    case VDB_INT64: printf(" %" PRId64, (int64_t)v[0]); break;
+    case VDB_FLOAT: printf(" %08" PRIx64, v[0]); break;
+    case VDB_VEC3I: printf(" %" PRId64 " %" PRId64 " %" PRId64, (int64_t)v[0], (int64_t)v[1], (int64_t)v[2]); break;
+    case VDB_OTHER: span(e[VDB_ENTRY_KIND_START], e[VDB_ENTRY_KIND_LEN]); /* fall through */
+    default: span(v[0], e[VDB_ENTRY_LEN]);
+    }
+}
+
+static void opened(const struct question *q)
+{
+    uint64_t g[VDB_OPENED_WORDS], place[VDB_PLACE_WORDS];
+    uint32_t k = q->numbers == 1 ? vdb_open_grid_numbered(file, file_len, (uint32_t)q->n[0], g, place)
+                                 : vdb_open_grid_named(file, file_len, q->bytes[0], q->len[0], g, place);
+    if (refused(k)) return;
+    printf(" %c", g[VDB_OPENED_MAP] == VDB_SCALE ? 's' : 't');
+    for (uint64_t i = 0; i < g[VDB_OPENED_MAP]; i++) printf(" %016" PRIx64, g[VDB_OPENED_DOUBLES + i]);
+    printf(" %08" PRIx64 " %" PRIu64, g[VDB_OPENED_BACKGROUND], g[VDB_OPENED_ACTIVE_COUNT]);
+}
+
+/* The slots before they are lent hold 7 each; all of them are summed up, also those that are not lent. */
+static void fill(const struct question *q)
+{
+    uint32_t slots[SLOTS], k;
+    uint64_t sum = 0;
+    for (int i = 0; i < SLOTS; i++) slots[i] = 7;
+    if (q->n[1] > SLOTS) stop("too many slots");
+    k = q->numbers == 3 ? vdb_fill_leaf_numbered(file, file_len, (uint32_t)q->n[2], q->n[0], slots, q->n[1])
+                        : vdb_fill_leaf_named(file, file_len, q->bytes[0], q->len[0], q->n[0], slots, q->n[1]);
+    if (!refused(k)) printf(" f");
+    for (int i = 0; i < SLOTS; i++) {
+        if (q->command[0] == 'v' && (i == 0 || slots[i] != slots[i - 1])) printf(" %d %08" PRIx32, i, slots[i]);
+        sum = (sum * 65599 + slots[i]) % 4294967291u;
+    }
+    printf(" = %08" PRIx64, sum);
+}
+
+int main(int count, char **argument)
+{
+    static char line[4096];
+    if (count != 2) stop("usage: questions DATA");
+    while (fgets(line, sizeof line, stdin) != NULL) {
+        struct question q = parse(line);
+        line[strcspn(line, "\n")] = '\0';
+        if (q.command[0] == 'l') {
+            load(argument[1], &q);
+            printf("%s\n", line);
+            continue;
+        }
+        printf("%s?", line);
+        switch (q.command[0]) {
+        case 'h': header(); break;
+        case 'd': descriptor(&q); break;
+        case 'e':
+        case 'm': entry(&q); break;
+        case 'o': opened(&q); break;
+        case 'f':
+        case 'v': fill(&q); break;
+        default: stop(line);
+        }
+        putchar('\n');
+    }
+    return 0;
+}
