@@ -142,6 +142,14 @@ uint32_t vdb_fill_leaf_named(const uint8_t *file, size_t file_len, const uint8_t
 uint32_t vdb_fill_leaf_numbered(const uint8_t *file, size_t file_len, uint32_t n, uint64_t leaf, uint32_t *slots, size_t slots_len);
 
 /*
+ * The same for the leaves from number `first` on, 512 slots each, one leaf after the other, with one opening of the grid. 21: `slots_len` is no multiple
+ * of 512, or one of these leaves is not there; then no slot is changed.
+ */
+uint32_t vdb_fill_leaves_named(const uint8_t *file, size_t file_len, const uint8_t *name, size_t name_len, uint64_t first, uint32_t *slots,
+                               size_t slots_len);
+uint32_t vdb_fill_leaves_numbered(const uint8_t *file, size_t file_len, uint32_t n, uint64_t first, uint32_t *slots, size_t slots_len);
+
+/*
  * The checks, in the order of their numbers: 1 over 2,147,483,647 bytes; 2 a field past the end; 3 magic; 4 version; 5 offsets byte; 6 packed grid;
  * 7 flags above 7; 8 over 64 grids; 9 a position past the end; 10 repeated grid name; 11 no such grid or entry; 12 grid type; 13 parent; 14 map name;
  * 15 tree buffer count; 16 over 256 roots; 17 root origin; 18 child and value bit at one place; 19 node byte; 20 leaf block; 21 no such leaf, or

@@ -31,6 +31,8 @@ CALLS = [
     'vdb::vdb_open_grid_named', 'vdb::vdb_open_grid_numbered',
     'vdb::vdb_walk',
     'vdb::vdb_fill_leaf_named', 'vdb::vdb_fill_leaf_numbered',
+    'vdb::vdb_fill_leaves_named', 'vdb::vdb_fill_leaves_numbered',
+    'leaves::fill_leaves_named', 'leaves::fill_leaves_numbered',
 ]
 
 # Theorems that a reader is pointed to, by crate and name: of these, the statement is looked at, with the

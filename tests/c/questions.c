@@ -133,6 +133,38 @@ static void entry(const struct question *q)
     }
 }
 
+static uint32_t fill_one(const struct question *q, int by_number, uint32_t n, uint64_t leaf, uint32_t *slots, size_t len)
+{
+    return by_number ? vdb_fill_leaf_numbered(file, file_len, n, leaf, slots, len)
+                     : vdb_fill_leaf_named(file, file_len, q->bytes[0], q->len[0], leaf, slots, len);
+}
+
+static uint32_t fill_run(const struct question *q, int by_number, uint32_t n, uint64_t first, uint32_t *slots, size_t len)
+{
+    return by_number ? vdb_fill_leaves_numbered(file, file_len, n, first, slots, len)
+                     : vdb_fill_leaves_named(file, file_len, q->bytes[0], q->len[0], first, slots, len);
+}
+
+/* Each run of leaves of an opened grid must be what the single leaves are; a run that is too long, or no whole leaves, must be 21. */
+static void runs(const struct question *q, int by_number, uint32_t n, uint64_t leaves)
+{
+    uint32_t one[512], *run = (uint32_t *)calloc(leaves + 1, 2048);
+    if (run == NULL) stop("no memory");
+    for (uint64_t first = 0; first <= leaves; first++) {
+        if (fill_run(q, by_number, n, first, run, (leaves - first) * 512) != 0) stop("a run is refused");
+        for (uint64_t i = first; i < leaves; i++) {
+            if (fill_one(q, by_number, n, i, one, 512) != 0) stop("a leaf is refused");
+            if (memcmp(one, run + (i - first) * 512, sizeof one) != 0) stop("a run differs from its leaves");
+        }
+        memset(run, 0x55, (leaves + 1) * 2048);
+        if (fill_run(q, by_number, n, first, run, (leaves + 1 - first) * 512) != 21) stop("a long run is not 21");
+        if (fill_run(q, by_number, n, 0, run, 511) != 21) stop("a part of a leaf is not 21");
+        for (uint64_t i = 0; i < (leaves + 1) * 512; i++)
+            if (run[i] != 0x55555555) stop("a refused run changes a slot");
+    }
+    free(run);
+}
+
 static void opened(const struct question *q)
 {
     uint64_t g[VDB_OPENED_WORDS], place[VDB_PLACE_WORDS];
@@ -142,6 +174,7 @@ static void opened(const struct question *q)
     printf(" %c", g[VDB_OPENED_MAP] == VDB_SCALE ? 's' : 't');
     for (uint64_t i = 0; i < g[VDB_OPENED_MAP]; i++) printf(" %016" PRIx64, g[VDB_OPENED_DOUBLES + i]);
     printf(" %08" PRIx64 " %" PRIu64, g[VDB_OPENED_BACKGROUND], g[VDB_OPENED_ACTIVE_COUNT]);
+    runs(q, q->numbers == 1, (uint32_t)q->n[0], g[VDB_OPENED_LEAF_COUNT]);
 }
 
 /* The slots before they are lent hold 7 each; all of them are summed up, also those that are not lent. */
@@ -151,8 +184,7 @@ static void fill(const struct question *q)
     uint64_t sum = 0;
     for (int i = 0; i < SLOTS; i++) slots[i] = 7;
     if (q->n[1] > SLOTS) stop("too many slots");
-    k = q->numbers == 3 ? vdb_fill_leaf_numbered(file, file_len, (uint32_t)q->n[2], q->n[0], slots, q->n[1])
-                        : vdb_fill_leaf_named(file, file_len, q->bytes[0], q->len[0], q->n[0], slots, q->n[1]);
+    k = fill_one(q, q->numbers == 3, (uint32_t)q->n[2], q->n[0], slots, q->n[1]);
     if (!refused(k)) printf(" f");
     for (int i = 0; i < SLOTS; i++) {
         if (q->command[0] == 'v' && (i == 0 || slots[i] != slots[i - 1])) printf(" %d %08" PRIx32, i, slots[i]);

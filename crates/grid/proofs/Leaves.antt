@@ -48,7 +48,7 @@ many-all P f h [] at = got-always _ _ _ tt
 many-all P f h (a ∷ rest) at = then-always _ _ _ λ b p e. then-always _ _ _ λ bs q g. got-always _ _ _ (h a at b p e, many-all P f h rest p bs q g)
 
 -- a block that was read
-abbrev HeldBlock : Coding → List ℕ → Block → Type 0
+abbrev pub HeldBlock : Coding → List ℕ → Block → Type 0
 HeldBlock c s b = Held s c 64 (b .mask) (b .mask) (b .values)
 
 module _ (s : List ℕ) (c : Coding) (w : isWidth (c .width)) where
@@ -73,7 +73,7 @@ module _ (s : List ℕ) (c : Coding) (w : isWidth (c .width)) where
       each-joined (λ f. Each (HeldBlock c s) (joined (λ g. g .blocks) (f .nodes))) (HeldBlock c s) (λ f. joined (λ g. g .blocks) (f .nodes)) fs
       (many-all (λ f. Each (HeldBlock c s) (joined (λ g. g .blocks) (f .nodes))) (filled5 s c) filled5-held roots at fs p e) λ f k. k
 
-abbrev HeldGrid : List ℕ → Grid → Type 0
+abbrev pub HeldGrid : List ℕ → Grid → Type 0
 HeldGrid s g = Each (HeldBlock (g .coding) s) (allBlocks (g .filled))
 
 -- the width is 2 or 4
@@ -89,7 +89,7 @@ field-held s h d =
     check-always _ _ _ _ λ a. check-always _ _ _ _ λ b. check-always _ _ _ _ λ e. then-always _ _ _ λ m q f. then-always _ _ _ λ t r g. then-always _ _ _ λ fs v x.
     got-always _ _ _ (blocks-held s (codingOf h d) (width-is (d .half)) (t .roots) (d .«block_pos») fs v x)
 
-grid-held : (s : List ℕ) (asked : Asked) (name : List ℕ) (g : Grid) → gives g ≡ grid s asked name → HeldGrid s g
+pub grid-held : (s : List ℕ) (asked : Asked) (name : List ℕ) (g : Grid) → gives g ≡ grid s asked name → HeldGrid s g
 unfolding grid
 grid-held s asked name g e =
     let a = with-back _ _ e in

@@ -213,7 +213,8 @@ fn opened(content: Content) -> OpenedGrid
     }
 }
 
-fn open_grid(s: &[u8], asked: Asked, name: &[u8]) -> GridAnswer
+// Opens the grid that is asked for.
+pub fn open_grid(s: &[u8], asked: Asked, name: &[u8]) -> GridAnswer
     ensures { λ r. ⌜ saysGridAnswer r ≡ openGrid (now (s .entry)) asked (now (name .entry)) ⌝ }
 {
     match look_at(s, asked, name, 0) {

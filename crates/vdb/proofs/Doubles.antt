@@ -4,7 +4,6 @@ use mathlib.Core.List.{List}
 use Prim.Native.Nat.{ℕ, _+_, _*_, _≤_}
 use native.Mathlib.Omega.{arith}
 use lib.ListN.{length}
-use Rattle.fields.specs.Parse.{got}
 use Rattle.fields.proofs.Laws.{Always, got-always, then-always, check-always, field-back}
 use Rattle.transform.specs.Transform.{scaleField, scaleTranslateField, mapField, transform}
 use Rattle.transform.specs.declared.MapKind.{MapKind}
@@ -15,7 +14,7 @@ use Rattle.archive.specs.declared.Asked.{Asked}
 use Rattle.archive.proofs.Laws.{with-back, answer-back, gives-same}
 use Rattle.header.specs.declared.ArchiveHeader.{ArchiveHeader}
 use Rattle.descriptor.specs.declared.GridDescriptor.{GridDescriptor}
-use Rattle.grid.specs.Grid.{Grid, contentField, gridField, grid, openGrid}
+use Rattle.grid.specs.Grid.{contentField, gridField, grid, openGrid}
 use Rattle.grid.specs.declared.OpenedGrid.{OpenedGrid}
 use Rattle.vdb.specs.Vdb.{doubleCount}
 use Rattle.vdb.specs.Inner.{DoublesHeld}

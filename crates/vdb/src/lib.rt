@@ -6,6 +6,7 @@ ghost use Prim.Native.Nat.{_+_, _*_, _≤_};
 ghost use lib.ListN.{length};
 ghost use Rattle.archive.specs.Archive.{openFile, gridNamed, gridNumbered, fileEntry, gridEntryNamed, gridEntryNumbered};
 ghost use Rattle.grid.specs.Grid.{openGridNamed, openGridNumbered, fillLeafNamed, fillLeafNumbered};
+ghost use Rattle.leaves.specs.Leaves.{fillLeavesNamed, fillLeavesNumbered};
 ghost use Rattle.records.specs.Slots.{slotsOf};
 ghost use Rattle.vdb.specs.Vdb.{laid, halfNumber, headerWords, descriptorWords, entryWords, doubleCount, doubleAt, openedWords, OpenCall, WalkCall};
 ghost use Rattle.vdb.specs.Inner.{DoublesHeld};
@@ -318,6 +319,28 @@ pub extern "C" fn vdb_fill_leaf_numbered(s: &[u8], n: u32, number: u64, slots: &
     ensures { λ r. ⌜ (r, now (slots .exit)) ≡ laid (fillLeafNumbered (now (s .entry)) n number (length (now (slots .entry)))) (λ values. values) (now (slots .entry)) ⌝ }
 {
     match grid::fill_leaf_numbered(s, n, number, slots) {
+        FillAnswer::Refused(k) => k,
+        FillAnswer::Filled => 0,
+    }
+}
+
+// Writes the values of the leaves from a number on, 512 slots each, of the grid of this name.
+#[no_mangle]
+pub extern "C" fn vdb_fill_leaves_named(s: &[u8], name: &[u8], first: u64, slots: &mut [u32]) -> u32
+    ensures { λ r. ⌜ (r, now (slots .exit)) ≡ laid (fillLeavesNamed (now (s .entry)) (now (name .entry)) first (length (now (slots .entry)))) (λ values. values) (now (slots .entry)) ⌝ }
+{
+    match leaves::fill_leaves_named(s, name, first, slots) {
+        FillAnswer::Refused(k) => k,
+        FillAnswer::Filled => 0,
+    }
+}
+
+// The same for the grid with this number, from 0.
+#[no_mangle]
+pub extern "C" fn vdb_fill_leaves_numbered(s: &[u8], n: u32, first: u64, slots: &mut [u32]) -> u32
+    ensures { λ r. ⌜ (r, now (slots .exit)) ≡ laid (fillLeavesNumbered (now (s .entry)) n first (length (now (slots .entry)))) (λ values. values) (now (slots .entry)) ⌝ }
+{
+    match leaves::fill_leaves_numbered(s, n, first, slots) {
         FillAnswer::Refused(k) => k,
         FillAnswer::Filled => 0,
     }

@@ -5,7 +5,7 @@ use Prim.Native.Nat.{ℕ, suc, _-_, _%_, _<_, _^_}
 use native.Mathlib.Omega.{arith}
 use lib.Dec.{ltb}
 use lib.IntN.{ℤ, pos, negsuc}
-use lib.Signed.{mag, ltZ}
+use lib.Signed.{ltZ}
 use borrow.Author.Tests.{ltb-true}
 use mir.Syntax.{w32, w64}
 use mir.Val.{SFits, toZ, ofZ}

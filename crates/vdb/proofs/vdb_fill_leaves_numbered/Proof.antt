@@ -1,0 +1,12 @@
+use borrow.Author.Needs.{needs}
+use Rattle.vdb.proofs.Laws.{fill-refused, fill-filled}
+use Rattle.vdb.proofs.vdb_fill_leaves_numbered.Statement.{statement}
+use Rattle.vdb.proofs.vdb_fill_leaves_numbered.Tie as tie
+
+pub vdb-fill-leaves-numbered-spec : {M : Type 1} → statement M
+vdb-fill-leaves-numbered-spec =
+    tie.close
+    (tie.spec
+    (λ c κs. search needs) (λ c. search needs) (λ c. search needs)
+    (λ c. search needs) (λ c. fill-refused _ _ (c .before .before .before .before .before .fill-leaves-numbered .ensures) (c .before .k .given .1))
+    (λ c. search needs) (λ c. fill-filled _ _ (c .before .before .before .before .fill-leaves-numbered .ensures) (c .enum-told .given .1)))
