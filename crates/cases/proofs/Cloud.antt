@@ -329,7 +329,7 @@ module _ {s : List ℕ} {o : GlobalCoord} {p5 : ℕ} {v5 : List ℕ} {p4 : ℕ} 
 
   -- opening it, by name and by number
   pub opens : Opens s list
-  unfolding openGrid isAsked
+  unfolding openGrid isAsked allBlocks joined
   opens =
       let named = opened A.ByName (ascii "d") (f .front-is .2) in
       let numbered = opened (A.ByNumber 0) [] refl in

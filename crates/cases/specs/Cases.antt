@@ -131,9 +131,16 @@ abbrev pub zeroMap : Map
 zeroMap = M.UniformScaleMap
     (record { «scale_values» = zeroVec; «voxel_size» = zeroVec; «scale_values_inverse» = zeroVec; «inv_scale_sqr» = zeroVec; «inv_twice_scale» = zeroVec })
 
--- what opening hands out, where the transform is the zero map and ends at 258, and the background is zero
+-- what opening hands out, where the transform is the zero map and ends at 258, the background is zero, and there is one leaf
 abbrev pub openedWith : List ℕ → Grid → List Record → OpenedGrid
-openedWith s g list = record { transform = zeroMap; «transform_end» = 258; background = 0; «active_count» = length list; place = placeAfter s g 0 }
+openedWith s g list = record {
+  transform = zeroMap;
+  «transform_end» = 258;
+  background = 0;
+  «active_count» = length list;
+  «leaf_count» = 1;
+  place = placeAfter s g 0;
+}
 
 -- The file's grid is found by its name, "d", and by its number, 0; it has this active list; and opening it, either way, hands this out.
 pub record Opens (s : List ℕ) (list : List Record) : Type 0 where
