@@ -38,7 +38,7 @@ CALLS = [
 # Theorems that a reader is pointed to, by crate and name: of these, the statement is looked at, with the
 # parameters of the sections that it stands in. Files proofs/FUNCTION/Proof.antt are not searched.
 THEOREMS = [
-    'grid::listed', 'grid::covered', 'grid::apart', 'walk::demand3', 'cases::cases',
+    'grid::listed', 'grid::covered', 'grid::apart', 'walk::demand3', 'vdb::walks', 'cases::cases',
 ]
 
 # crate::name of definitions that are reached but not followed, each with its reason.

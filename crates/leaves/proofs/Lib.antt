@@ -1,2 +1,3 @@
 mod Laws
 mod Tree
+pub mod Each

@@ -1,2 +1,3 @@
-pub mod Laws
+mod Laws
 mod Doubles
+pub mod Calls

@@ -1,2 +1,3 @@
 pub mod Vdb
+pub mod Calls
 pub mod Inner

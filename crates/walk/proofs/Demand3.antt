@@ -60,7 +60,7 @@ rows-laid t i (r ∷ rs) h =
     cc (here, rows-laid (put t i r) (suc i) rs (simp length-set (omega arith)))
 
 -- an answer that gives w is w
-answered : (r : WalkAnswer) {w : Walked} → saysWalk r ≡ gives w → r ≡ HasWalked w
+pub answered : (r : WalkAnswer) {w : Walked} → saysWalk r ≡ gives w → r ≡ HasWalked w
 answered (HasWalked v) e = ap HasWalked (gives-same e)
 answered (WalkRefused k) e = let z : _≡_ {A = ℕ} 0 1 = cc in absurd (omega arith)
 
