@@ -1,3 +1,3 @@
 mod Laws
-mod Doubles
+pub mod Doubles
 pub mod Calls
