@@ -165,6 +165,41 @@ static void runs(const struct question *q, int by_number, uint32_t n, uint64_t l
     free(run);
 }
 
+/* The walk from a fresh place must hand out as many records as opening counted, with the number left going down to 0. */
+static void walk(const uint64_t fresh[VDB_PLACE_WORDS], uint64_t active)
+{
+    uint64_t place[VDB_PLACE_WORDS], counts[VDB_WALK_COUNTS];
+    int32_t x[7], y[7], z[7];
+    uint32_t level[7], value[7];
+    memcpy(place, fresh, sizeof place);
+    do {
+        uint64_t wanted = active < 7 ? active : 7;
+        if (vdb_walk(file, file_len, place, x, 7, y, 7, z, 7, level, 7, value, 7, counts) != 0) stop("a walk is refused");
+        active -= wanted;
+        if (counts[VDB_FILLED] != wanted || counts[VDB_LEFT] != active) stop("a walk counts wrongly");
+    } while (active > 0);
+}
+
+/* A place with one word changed is safe: some records, or 22, and then nothing is changed. */
+static void walk_from_anywhere(const uint64_t fresh[VDB_PLACE_WORDS])
+{
+    static const uint64_t strange[] = {0, 1, 2, 0x7fffffff, 0x80000000, 0xffffffff, 0x100000000, UINT64_MAX};
+    for (int i = 0; i < VDB_PLACE_WORDS * 8; i++) {
+        uint64_t place[VDB_PLACE_WORDS], before[VDB_PLACE_WORDS], counts[VDB_WALK_COUNTS] = {5, 5};
+        int32_t x[3] = {5, 5, 5}, y[3] = {5, 5, 5}, z[3] = {5, 5, 5};
+        uint32_t level[3] = {5, 5, 5}, value[3] = {5, 5, 5}, k;
+        memcpy(place, fresh, sizeof place);
+        place[i / 8] = strange[i % 8];
+        memcpy(before, place, sizeof place);
+        k = vdb_walk(file, file_len, place, x, 3, y, 3, z, 3, level, 3, value, 3, counts);
+        if (k != 0 && k != 22) stop("a walk is refused with another number than 22");
+        if (k == 0 && counts[VDB_FILLED] > 3) stop("a walk fills more slots than there are");
+        for (uint64_t j = k == 0 ? counts[VDB_FILLED] : 0; j < 3; j++)
+            if (x[j] != 5 || y[j] != 5 || z[j] != 5 || level[j] != 5 || value[j] != 5) stop("a walk changes a slot that it does not fill");
+        if (k == 22 && (counts[0] != 5 || counts[1] != 5 || memcmp(place, before, sizeof place) != 0)) stop("a refused walk changes something");
+    }
+}
+
 static void opened(const struct question *q)
 {
     uint64_t g[VDB_OPENED_WORDS], place[VDB_PLACE_WORDS];
@@ -174,6 +209,8 @@ static void opened(const struct question *q)
     printf(" %c", g[VDB_OPENED_MAP] == VDB_SCALE ? 's' : 't');
     for (uint64_t i = 0; i < g[VDB_OPENED_MAP]; i++) printf(" %016" PRIx64, g[VDB_OPENED_DOUBLES + i]);
     printf(" %08" PRIx64 " %" PRIu64, g[VDB_OPENED_BACKGROUND], g[VDB_OPENED_ACTIVE_COUNT]);
+    walk(place, g[VDB_OPENED_ACTIVE_COUNT]);
+    walk_from_anywhere(place);
     runs(q, q->numbers == 1, (uint32_t)q->n[0], g[VDB_OPENED_LEAF_COUNT]);
 }
 
