@@ -52,7 +52,7 @@ row-put t i r h =
     )
 
 -- records from slot i on, where there are slots for all, stand there
-rows-laid : (t : Slots) (i : ℕ) (rs : List Record) → i + length rs ≤ slotCount t → rows (laid t i rs) i (length rs) ≡ rs
+pub rows-laid : (t : Slots) (i : ℕ) (rs : List Record) → i + length rs ≤ slotCount t → rows (laid t i rs) i (length rs) ≡ rs
 unfolding laid rows
 rows-laid t i [] h = refl
 rows-laid t i (r ∷ rs) h =

@@ -27,7 +27,7 @@ use Rattle.walk.specs.declared.Walked.{Walked}
 use Rattle.walk.specs.declared.WalkAnswer.{WalkAnswer}
 use Rattle.walk.specs.declared.WalkAnswer.the-variants.{Walked as HasWalked, Refused as WalkRefused}
 
-refuses-gives : {A : Type 0} {n : ℕ} {a : A} → refuses n ≡ gives a → ⊥
+pub refuses-gives : {A : Type 0} {n : ℕ} {a : A} → refuses n ≡ gives a → ⊥
 refuses-gives e = let z : _≡_ {A = ℕ} 0 1 = cc in absurd (omega arith)
 
 refuses-same : {A : Type 0} {n m : ℕ} → _≡_ {A = Answer A} (refuses n) (refuses m) → n ≡ m
