@@ -25,7 +25,7 @@ CALLS = [
     'archive::file_entry', 'archive::grid_entry_named', 'archive::grid_entry_numbered',
     'grid::open_grid_named', 'grid::open_grid_numbered',
     'grid::fill_leaf_named', 'grid::fill_leaf_numbered',
-    'walk::walk',
+    'walk::walk', 'rows::walk_records',
     'vdb::vdb_open_file', 'vdb::vdb_grid_named', 'vdb::vdb_grid_numbered',
     'vdb::vdb_file_entry', 'vdb::vdb_grid_entry_named', 'vdb::vdb_grid_entry_numbered',
     'vdb::vdb_open_grid_named', 'vdb::vdb_open_grid_numbered',
@@ -38,7 +38,7 @@ CALLS = [
 # Theorems that a reader is pointed to, by crate and name: of these, the statement is looked at, with the
 # parameters of the sections that it stands in. Files proofs/FUNCTION/Proof.antt are not searched.
 THEOREMS = [
-    'grid::listed', 'grid::covered', 'grid::apart', 'walk::demand3', 'vdb::walks', 'cases::cases',
+    'grid::listed', 'grid::covered', 'grid::apart', 'walk::demand3', 'rows::demand3-rows', 'vdb::walks', 'cases::cases',
 ]
 
 # crate::name of definitions that are reached but not followed, each with its reason.

@@ -11,8 +11,7 @@ use lib.Seq.{sets, sets-eq, take-at}
 use Rattle.tree.specs.Active.{Record}
 use Rattle.records.specs.Slots.{Slots, slotsOf, slotCount, put, laid}
 use Rattle.walk.specs.Demand3.{rows}
-use Rattle.rows.specs.Rows.{columns}
-use Rattle.rows.specs.Inner.{rowOf}
+use Rattle.rows.specs.Rows.{rowOf, columns}
 use Rattle.rows.specs.declared.Record.{Record as Row}
 
 map-set : {A B : Type 0} (f : A → B) (l : List A) (i : ℕ) (a : A) → map f (set l i a) ≡ set (map f l) i (f a)

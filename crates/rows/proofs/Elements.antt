@@ -47,7 +47,8 @@ module _ {M : Type 1} (𝓤 : URA M) (H : Heap 𝓤) (A : Atoms 𝓤) (W : Given
       use1 W (‵ (fat q τ b (place (size τ) (o + size τ) k) (getD us k d)) ⊛ raw (Back (o + size τ) us k)) (takes us k d (o + size τ) (le-of-suc-le-suc l)) $ split ! $ frame ! $
       every ! (λ (w : Val). wand 𝓤 (H .at q τ b (place (size τ) (o + size τ) k) w) (elems 𝓤 H q τ b o (u ∷ set us k w))) (λ w. assume ! (‵ (fat q τ b (place (size τ) (o + size τ) k) w)) $
       move ! (1 ∷ []) $ use1 W (raw (One w)) (allE 𝓤 One w) $ move ! (1 ∷ 0 ∷ []) $
-      use2 W (raw (elems 𝓤 H q τ b (o + size τ) (set us k w))) (apply∗ 𝓤 (H .at q τ b (place (size τ) (o + size τ) k) w) (elems 𝓤 H q τ b (o + size τ) (set us k w))) $ move ! (1 ∷ 0 ∷ []) $ frame ! $ done !)
+      use2 W (raw (elems 𝓤 H q τ b (o + size τ) (set us k w))) (apply∗ 𝓤 (H .at q τ b (place (size τ) (o + size τ) k) w) (elems 𝓤 H q τ b (o + size τ) (set us k w))) $ move ! (1 ∷ 0 ∷ []) $
+      frame ! $ done !)
     where
       One : Val → SProp 𝓤
       One w = wand 𝓤 (H .at q τ b (place (size τ) (o + size τ) k) w) (elems 𝓤 H q τ b (o + size τ) (set us k w))

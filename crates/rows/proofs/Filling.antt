@@ -10,8 +10,8 @@ use lib.Seq.{sets, drop-cons, getD-take}
 use Rattle.tree.specs.Active.{Record}
 use Rattle.place.specs.declared.Place.{Place}
 use Rattle.walk.specs.Walk.{Promise}
-use Rattle.rows.specs.Rows.{columns}
-use Rattle.rows.specs.Inner.{rowOf, Portioned}
+use Rattle.rows.specs.Rows.{rowOf, columns}
+use Rattle.rows.specs.Inner.{Portioned}
 use Rattle.rows.specs.declared.Record.{Record as Row}
 use Rattle.rows.specs.declared.Portion.{Portion}
 use Rattle.rows.proofs.Columns.{sets-append, columns-count, columns-sets}

@@ -4,3 +4,4 @@ pub mod Portions
 pub mod Filling
 pub mod Elements
 pub mod Tests
+pub mod Demand3

@@ -12,7 +12,8 @@ use Rattle.walk.specs.Demand3.{rows}
 use Rattle.walk.specs.declared.Walked.{Walked}
 use Rattle.walk.specs.declared.WalkAnswer.{WalkAnswer}
 use Rattle.walk.specs.declared.WalkAnswer.the-variants.{Walked as HasWalked, Refused as WalkRefused}
-use Rattle.rows.specs.Inner.{rowOf, counted, together, Portioned}
+use Rattle.rows.specs.Rows.{rowOf}
+use Rattle.rows.specs.Inner.{counted, together, Portioned}
 use Rattle.rows.specs.declared.Record.{Record as Row}
 use Rattle.rows.proofs.Columns.{rows-length}
 use Rattle.rows.proofs.Says.{says-of}

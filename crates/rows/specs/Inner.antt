@@ -15,12 +15,8 @@ use Rattle.walk.specs.Walk.{saysWalk, nextRecords, walkedTo, neededNext}
 use Rattle.walk.specs.declared.Walked.{Walked}
 use Rattle.walk.specs.declared.WalkAnswer.{WalkAnswer}
 use Rattle.walk.specs.declared.WalkAnswer.the-variants.{Walked as HasWalked, Refused as WalkRefused}
-use Rattle.rows.specs.declared.Record.{Record as Row}
+use Rattle.rows.specs.Rows.{rowOf}
 use Rattle.rows.specs.declared.Portion.{Portion}
-
--- a record as the row has it
-abbrev pub rowOf : Record → Row
-rowOf r = record { x = r .corner .0; y = r .corner .1; z = r .corner .2; level = r .level; value = r .value }
 
 -- What `Promise` says of a walk call with k slots, but for the slots: of its answer and of the records that it hands out.
 pub record Says (s : List ℕ) (p : Place) (k : ℕ) (r : WalkAnswer) (rs : List Record) : Type 0 where

@@ -62,18 +62,21 @@ few : tie.Need-in-a-row-requires
 few c κs =
     let a = called-2 c in
     let k = a .walk .kept .1 .1 in
-    few-slots _ _ _ _ _ _ _ (handed a _ (c .before .before .before .before .before .before .before .before .before .w .given .1)) (k .0) (k .1 .0) (k .1 .1 .0) (k .1 .1 .1 .0) (scratch-back (size a) (value a) (kept a))
+    few-slots _ _ _ _ _ _ _ (handed a _ (c .before .before .before .before .before .before .before .before .before .w .given .1)) (k .0) (k .1 .0) (k .1 .1 .0) (k .1 .1 .1 .0)
+    (scratch-back (size a) (value a) (kept a))
 
 returns : tie.Need-returns
 returns c =
     let a = called-3 c in
-    walked (start a .args .s .now) (past a) (slots a) _ _ (c .in-a-row .result) (lent-count (size a) _ (sized a)) _ (a .walk .ensures) (c .before .before .before .before .before .before .before .before .before .before .w .given .1)
+    walked (start a .args .s .now) (past a) (slots a) _ _ (c .in-a-row .result) (lent-count (size a) _ (sized a)) _ (a .walk .ensures)
+    (c .before .before .before .before .before .before .before .before .before .before .w .given .1)
     (lent-long (size a) _ (value a) (sized a) (kept a)) (c .in-a-row .ensures)
 
 returns-2 : tie.Need-returns-2
 returns-2 c =
     let a = called-5 c in
-    refused (start a .args .s .now) (past a) (slots a) _ _ (c .before .in-a-row2 .result) (lent-count (size a) _ (sized a)) (a .walk .ensures) (c .before .before .before .before .before .before .before .before .k .given .1) (c .ended .ensures)
+    refused (start a .args .s .now) (past a) (slots a) _ _ (c .before .in-a-row2 .result) (lent-count (size a) _ (sized a)) (a .walk .ensures)
+    (c .before .before .before .before .before .before .before .before .k .given .1) (c .ended .ensures)
 
 pub next-portion-spec : {M : Type 1} → statement M
 next-portion-spec =

@@ -287,7 +287,8 @@ module _ {M : Type 1} (𝓤 : URA M) (H : Heap 𝓤) (A : Atoms 𝓤) (W : Given
     left : (t : State) → t .0 .portion .count ≤ t .0 .j → Sq W (At t) (prop (Wp 𝓤 H C Λ En body.t-8 (atReturn 𝓤 H En Ends)))
     left t over =
         exec ! C Λ En body.t-8 (atRet En Ends) $
-        assigns ! (of-opd ! (load ! (from ! (fld ! refl (stop !))) (look-in ! 28 (sub ! 3 refl (whole !))))) (from ! (stop !)) (init ! 38 refl (typed-answer (t .0 .portion .answer) (of-answer (t .0 .portion) (t .1)))) $
+        assigns ! (of-opd ! (load ! (from ! (fld ! refl (stop !))) (look-in ! 28 (sub ! 3 refl (whole !))))) (from ! (stop !)) (init ! 38 refl (typed-answer (t .0 .portion .answer)
+        (of-answer (t .0 .portion) (t .1)))) $
         move ! (40 ∷ 41 ∷ 42 ∷ 43 ∷ []) $ closes-slice ! tt T.the-row xs (t .0 .ys) (t .0 .long) b o $
         -- [obs; the borrow; its token; _19; …; and so on to _0; …; what src owns; its token]
         returns ! (look ! 41 refl) $ forget ! 27 refl $ forget ! 29 refl $ forget ! 31 refl $ forget ! 35 refl $ forget ! 37 refl $ forget ! 39 refl $ forget ! 41 refl $
@@ -320,7 +321,8 @@ module _ {M : Type 1} (𝓤 : URA M) (H : Heap 𝓤) (A : Atoms 𝓤) (W : Given
         assigns ! (bin ! (load ! (from ! (stop !)) (look ! 27 refl)) (lit ! tt) (record { fits = i-fits })) (from ! (stop !)) (store ! 27 refl (tt, record { fits = i-fits })) $
         assigns ! (bin ! (load ! (from ! (stop !)) (look ! 25 refl)) (lit ! tt) (record { fits = j-fits })) (from ! (stop !)) (store ! 25 refl (tt, record { fits = j-fits })) $
         forget ! 7 refl $ forget ! 9 refl $ forget ! 11 refl $ forget ! 13 refl $ forget ! 15 refl $ forget ! 19 refl $
-        keep ! (1 ∷ 2 ∷ 3 ∷ 4 ∷ 5 ∷ 6 ∷ 7 ∷ 8 ∷ 9 ∷ 10 ∷ 11 ∷ 12 ∷ 13 ∷ 14 ∷ 15 ∷ 16 ∷ 17 ∷ 18 ∷ 19 ∷ 20 ∷ 21 ∷ 22 ∷ 23 ∷ 24 ∷ 25 ∷ 26 ∷ 27 ∷ 28 ∷ 29 ∷ 30 ∷ 31 ∷ 32 ∷ 33 ∷ 34 ∷ 35 ∷ 36 ∷ 37 ∷ 38 ∷ 39 ∷ 40 ∷ 0 ∷ 41 ∷ 42 ∷ 43 ∷ 44 ∷ 45 ∷ []) $ s)
+        keep ! (1 ∷ 2 ∷ 3 ∷ 4 ∷ 5 ∷ 6 ∷ 7 ∷ 8 ∷ 9 ∷ 10 ∷ 11 ∷ 12 ∷ 13 ∷ 14 ∷ 15 ∷ 16 ∷ 17 ∷ 18 ∷ 19 ∷ 20 ∷ 21 ∷ 22 ∷ 23 ∷ 24 ∷ 25 ∷ 26 ∷ 27 ∷ 28 ∷ 29 ∷ 30 ∷ 31 ∷ 32 ∷ 33 ∷ 34 ∷ 35 ∷ 36 ∷ 37 ∷ 38
+        ∷ 39 ∷ 40 ∷ 0 ∷ 41 ∷ 42 ∷ 43 ∷ 44 ∷ 45 ∷ []) $ s)
       where
         is-r : Is T.the-row (recordAt q j) (T′.lowered (recordAt q j) ∷ [])
         is-r = of-record q is j in-rows
@@ -358,22 +360,27 @@ module _ {M : Type 1} (𝓤 : URA M) (H : Heap 𝓤) (A : Atoms 𝓤) (W : Given
         assigns ! (of-opd ! (load ! (from ! (fld ! refl (stop !))) (look-in ! 28 (sub ! 2 refl (whole !))))) (from ! (stop !)) (init ! 2 refl (typed-past (q .past) (of-past q is))) $
         assigns ! (of-opd ! (load ! (from ! (fld ! refl (stop !))) (look-in ! 32 (sub ! 1 refl (whole !))))) (from ! (stop !)) (init ! 0 refl (tt, record { fits = room .0 })) $
         move ! (44 ∷ 45 ∷ []) $ portioned (q .past) (of-past q is) fm known
-        (and-then ! (load ! (from ! (stop !)) (look ! 38 refl)) (and-then ! (load ! (from ! (stop !)) (look ! 4 refl)) (and-then ! (load ! (from ! (stop !)) (look ! 2 refl)) (no-more !)))) (λ r e is-r.
+        (and-then ! (load ! (from ! (stop !)) (look ! 38 refl)) (and-then ! (load ! (from ! (stop !)) (look ! 4 refl)) (and-then ! (load ! (from ! (stop !)) (look ! 2 refl)) (no-more !))))
+        (λ r e is-r.
         -- [src's token; what src owns; _19; …; and so on; the slots at 42 to 45]
         land ! (from ! (stop !)) (init ! 6 refl (typed-portion r is-r)) $
         assigns ! (of-opd ! (load ! (from ! (stop !)) (look ! 6 refl))) (from ! (stop !)) (store ! 30 refl (typed-portion r is-r)) $
         assigns-last ! (of-opd ! (lit ! tt)) (from ! (stop !)) (store ! 26 refl (tt, record { fits = lit< tt })) $
-        forget ! 2 refl $ forget ! 4 refl $ forget ! 6 refl $ keep ! (2 ∷ 3 ∷ 4 ∷ 5 ∷ 6 ∷ 7 ∷ 8 ∷ 9 ∷ 10 ∷ 11 ∷ 12 ∷ 13 ∷ 14 ∷ 15 ∷ 16 ∷ 17 ∷ 18 ∷ 19 ∷ 20 ∷ 21 ∷ 22 ∷ 23 ∷ 24 ∷ 25 ∷ 26 ∷ 27 ∷ 28 ∷ 29 ∷ 30 ∷ 31 ∷ 32 ∷ 33 ∷ 34 ∷ 35 ∷ 36 ∷ 37 ∷ 38 ∷ 39 ∷ 40 ∷ 41 ∷ 42 ∷ 43 ∷ 44 ∷ 45 ∷ 1 ∷ 0 ∷ []) $ s r e is-r)
+        forget ! 2 refl $ forget ! 4 refl $ forget ! 6 refl $
+        keep ! (2 ∷ 3 ∷ 4 ∷ 5 ∷ 6 ∷ 7 ∷ 8 ∷ 9 ∷ 10 ∷ 11 ∷ 12 ∷ 13 ∷ 14 ∷ 15 ∷ 16 ∷ 17 ∷ 18 ∷ 19 ∷ 20 ∷ 21 ∷ 22 ∷ 23 ∷ 24 ∷ 25 ∷ 26 ∷ 27 ∷ 28 ∷ 29 ∷ 30 ∷ 31 ∷ 32 ∷ 33 ∷ 34 ∷ 35 ∷ 36 ∷ 37 ∷ 38
+        ∷ 39 ∷ 40 ∷ 41 ∷ 42 ∷ 43 ∷ 44 ∷ 45 ∷ 1 ∷ 0 ∷ []) $ s r e is-r)
 
     turns : (t : State) → Sq W (At t) (runs C Λ En body.turn-1 (anyQ (Turned t)))
     unfolding afterTurn
     turns t =
-        assigns ! (of-opd ! (load ! (from ! (fld ! refl (stop !))) (look-in ! 28 (sub ! 1 refl (whole !))))) (from ! (stop !)) (init ! 18 refl (tt, record { fits = of-count (t .0 .portion) (t .1) })) $
+        assigns ! (of-opd ! (load ! (from ! (fld ! refl (stop !))) (look-in ! 28 (sub ! 1 refl (whole !))))) (from ! (stop !)) (init ! 18 refl (tt, record { fits = of-count (t .0 .portion)
+        (t .1) })) $
         assigns ! (bin ! (load ! (from ! (stop !)) (look ! 24 refl)) (load ! (from ! (stop !)) (look ! 18 refl)) tt) (from ! (stop !)) (init ! 16 refl (tt, tt)) $
         tests ! (load ! (from ! (stop !)) (look ! 16 refl))
         (λ less. let h = ltb→lt (t .0 .j) (t .0 .portion .count) less in forget ! 16 refl $ forget ! 18 refl $
         stores (t .0 .portion) (t .0 .i) (t .0 .j) (t .0 .ys) (t .1) (in-row h) (t .0 .long) (in-portion h)
-        (assigns ! (of-opd ! (load ! (from ! (fld ! refl (stop !))) (look-in ! 28 (sub ! 1 refl (whole !))))) (from ! (stop !)) (init ! 18 refl (tt, record { fits = of-count (t .0 .portion) (t .1) })) $
+        (assigns ! (of-opd ! (load ! (from ! (fld ! refl (stop !))) (look-in ! 28 (sub ! 1 refl (whole !))))) (from ! (stop !)) (init ! 18 refl (tt, record { fits = of-count (t .0 .portion)
+        (t .1) })) $
         assigns ! (bin ! (load ! (from ! (stop !)) (look ! 24 refl)) (load ! (from ! (stop !)) (look ! 18 refl)) tt) (from ! (stop !)) (init ! 16 refl (tt, tt)) $
         branches ! (load ! (from ! (stop !)) (look ! 16 refl))
         (λ last. forget ! 16 refl $ forget ! 18 refl $ refills (t .0 .portion) (t .0 .i + 1) (t .0 .j + 1) (set (t .0 .ys) (t .0 .i) (recordAt (t .0 .portion) (t .0 .j))) (t .1) t (λ r e is-r.
@@ -404,13 +411,16 @@ module _ {M : Type 1} (𝓤 : URA M) (H : Heap 𝓤) (A : Atoms 𝓤) (W : Given
         (no-more !))))) (from ! (stop !)) (init ! 30 refl (typed-past (start p) is-start)) $
         assigns ! (of-opd ! (load ! (from ! (fld ! refl (stop !))) (look-in ! 32 (sub ! 1 refl (whole !))))) (from ! (stop !)) (init ! 20 refl (tt, record { fits = room .0 })) $
         move ! (44 ∷ 45 ∷ []) $ portioned (start p) is-start fm known
-        (and-then ! (load ! (from ! (stop !)) (look ! 38 refl)) (and-then ! (load ! (from ! (stop !)) (look ! 32 refl)) (and-then ! (load ! (from ! (stop !)) (look ! 22 refl)) (no-more !)))) (λ r e is-r.
+        (and-then ! (load ! (from ! (stop !)) (look ! 38 refl)) (and-then ! (load ! (from ! (stop !)) (look ! 32 refl)) (and-then ! (load ! (from ! (stop !)) (look ! 22 refl)) (no-more !))))
+        (λ r e is-r.
         -- [src's token; what src owns; _19; …; and so on; the slots at 42 to 45]
         land ! (from ! (stop !)) (init ! 24 refl (typed-portion r is-r)) $
         assigns ! (of-opd ! (load ! (from ! (stop !)) (look ! 24 refl))) (from ! (stop !)) (init ! 30 refl (typed-portion r is-r)) $
         assigns ! (of-opd ! (lit ! tt)) (from ! (stop !)) (init ! 28 refl (tt, record { fits = lit< tt })) $
         assigns ! (of-opd ! (lit ! tt)) (from ! (stop !)) (init ! 26 refl (tt, record { fits = lit< tt })) $
-        forget ! 22 refl $ forget ! 24 refl $ forget ! 32 refl $ keep ! (2 ∷ 3 ∷ 4 ∷ 5 ∷ 6 ∷ 7 ∷ 8 ∷ 9 ∷ 10 ∷ 11 ∷ 12 ∷ 13 ∷ 14 ∷ 15 ∷ 16 ∷ 17 ∷ 18 ∷ 19 ∷ 20 ∷ 21 ∷ 22 ∷ 23 ∷ 24 ∷ 25 ∷ 26 ∷ 27 ∷ 28 ∷ 29 ∷ 30 ∷ 31 ∷ 32 ∷ 33 ∷ 34 ∷ 35 ∷ 36 ∷ 37 ∷ 38 ∷ 39 ∷ 40 ∷ 41 ∷ 42 ∷ 43 ∷ 44 ∷ 45 ∷ 1 ∷ 0 ∷ []) $ looped (begin (src .now) p xs r e, is-r))
+        forget ! 22 refl $ forget ! 24 refl $ forget ! 32 refl $
+        keep ! (2 ∷ 3 ∷ 4 ∷ 5 ∷ 6 ∷ 7 ∷ 8 ∷ 9 ∷ 10 ∷ 11 ∷ 12 ∷ 13 ∷ 14 ∷ 15 ∷ 16 ∷ 17 ∷ 18 ∷ 19 ∷ 20 ∷ 21 ∷ 22 ∷ 23 ∷ 24 ∷ 25 ∷ 26 ∷ 27 ∷ 28 ∷ 29 ∷ 30 ∷ 31 ∷ 32 ∷ 33 ∷ 34 ∷ 35 ∷ 36 ∷ 37 ∷ 38
+        ∷ 39 ∷ 40 ∷ 41 ∷ 42 ∷ 43 ∷ 44 ∷ 45 ∷ 1 ∷ 0 ∷ []) $ looped (begin (src .now) p xs r e, is-r))
 
     -- the locals where the body begins; the borrow is opened
     opened : Sq W (Temporaries (empty word l₇ (empty word l₆ (empty S′.mir l₅ (empty K′.mir l₄ (Given-to ((‵ (flft κ₀ q₀) ⊛ ‵ (flft κ₁ q₁) ⊛ ‵ ftrue)
@@ -420,7 +430,8 @@ module _ {M : Type 1} (𝓤 : URA M) (H : Heap 𝓤) (A : Atoms 𝓤) (W : Given
         -- [obs; the borrow; its fact; true; what src owns; _19; …; and so on to _0; …; the tokens]
         move ! (45 ∷ []) $ split ! $ move ! (1 ∷ []) $ split ! $ move ! (3 ∷ 4 ∷ 0 ∷ []) $ opens-slice ! tt T.the-row xs b o $
         -- [the row; the open borrow; obs; auth; true; src's token; the slots' fact; true; what src owns; _19; …]
-        keep ! (9 ∷ 10 ∷ 11 ∷ 12 ∷ 13 ∷ 14 ∷ 15 ∷ 16 ∷ 17 ∷ 18 ∷ 19 ∷ 20 ∷ 21 ∷ 22 ∷ 23 ∷ 24 ∷ 25 ∷ 26 ∷ 27 ∷ 28 ∷ 29 ∷ 30 ∷ 31 ∷ 32 ∷ 33 ∷ 34 ∷ 35 ∷ 36 ∷ 37 ∷ 38 ∷ 39 ∷ 40 ∷ 41 ∷ 42 ∷ 43 ∷ 44 ∷ 45 ∷ 46 ∷ 47 ∷ 48 ∷ 0 ∷ 1 ∷ 2 ∷ 3 ∷ 8 ∷ 5 ∷ []) $ begins
+        keep ! (9 ∷ 10 ∷ 11 ∷ 12 ∷ 13 ∷ 14 ∷ 15 ∷ 16 ∷ 17 ∷ 18 ∷ 19 ∷ 20 ∷ 21 ∷ 22 ∷ 23 ∷ 24 ∷ 25 ∷ 26 ∷ 27 ∷ 28 ∷ 29 ∷ 30 ∷ 31 ∷ 32 ∷ 33 ∷ 34 ∷ 35 ∷ 36 ∷ 37 ∷ 38 ∷ 39 ∷ 40 ∷ 41 ∷ 42 ∷ 43 ∷ 44
+        ∷ 45 ∷ 46 ∷ 47 ∷ 48 ∷ 0 ∷ 1 ∷ 2 ∷ 3 ∷ 8 ∷ 5 ∷ []) $ begins
 
   walk : (𝓣 : Tables 𝓤 H) → FmC 𝓤 H (W .laws) (𝓣 .C) → Triple 𝓤 (𝓣 .C #rows·next-portion) (Next 𝓤 H A mem run) → Is (ShrSlice (named 0) κ₀ u8) src (v-src ∷ [])
       → ent 𝓤 (onEntry 𝓤 H A walk′.signature (κ₀, (κ₁, tt)) (q₀, (q₁, tt)) a vals) (WpFn 𝓤 H (𝓣 .C) (𝓣 .Λ) code.function (v-src ∷ P′.lowered p ∷ v-slots ∷ []) Ends)
