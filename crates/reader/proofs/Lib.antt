@@ -1,3 +1,4 @@
 pub mod Field
 pub mod Sorts
 pub mod Lent
+pub mod Three

@@ -3,9 +3,13 @@ use Prim.Native.Nat.{ℕ}
 use mathlib.Core.List.{List}
 use denote.Ref.{RefT, now}
 use Rattle.fields.specs.Parse.{Parse, got, fails, then}
+use Rattle.fields.specs.Fields.{u32Field}
 use Rattle.fields.specs.declared.Span.{Span}
 use Rattle.descriptor.specs.declared.GridNames.{GridNames}
 use Rattle.reader.specs.declared.Reader.{Reader}
+use Rattle.reader.specs.declared.Versions.{Versions}
+use Rattle.reader.specs.declared.VersionsField.{VersionsField}
+use Rattle.reader.specs.declared.VersionsField.the-variants.{Got as GotVersions, Past as PastVersions}
 
 -- a reader of these bytes at this position
 abbrev pub readerAt : RefT (List ℕ) → ℕ → Reader
@@ -20,10 +24,31 @@ behind (fails k) at = at
 abbrev pub reading : {A : Type 0} → (List ℕ → ℕ → Parse A) → Reader → Parse A × Reader
 reading field r = (field (now (r .src)) (r .at), readerAt (r .src) (behind (field (now (r .src)) (r .at)) (r .at)))
 
--- a descriptor's three names from three strings read in a row
-unfoldable pub namesOf : Parse Span → Parse Span → Parse Span → Parse GridNames
-namesOf a b c =
-    then a λ name p.
-    then b λ type q.
-    then c λ parent n.
-    got (record { name = name; «grid_type» = type; «instance_parent» = parent }) n
+-- three fields read in a row and joined; the first that is refused counts
+unfoldable pub inRow : {A B : Type 0} → (A → A → A → B) → Parse A → Parse A → Parse A → Parse B
+inRow joined a b c =
+    then a λ x p.
+    then b λ y q.
+    then c λ z n.
+    got (joined x y z) n
+
+-- a descriptor's three names from three strings
+abbrev pub namesOf : Parse Span → Parse Span → Parse Span → Parse GridNames
+namesOf = inRow (λ name type parent. record { name = name; «grid_type» = type; «instance_parent» = parent })
+
+-- the version and the library's two numbers from three fields
+abbrev pub versionsOf : Parse ℕ → Parse ℕ → Parse ℕ → Parse Versions
+versionsOf = inRow (λ version major minor. record { «file_version» = version; «library_version_major» = major; «library_version_minor» = minor })
+
+-- section 2: what stands behind the header's magic, the version first, then two numbers of the library; only check 2 is made
+unfoldable pub versionsField : List ℕ → ℕ → Parse Versions
+versionsField s at =
+    then (u32Field s at) λ version p.
+    then (u32Field s p) λ major q.
+    then (u32Field s q) λ minor n.
+    got (record { «file_version» = version; «library_version_major» = major; «library_version_minor» = minor }) n
+
+-- what the code's answer says
+abbrev pub saysVersions : VersionsField → Parse Versions
+saysVersions (GotVersions v n) = got v n
+saysVersions PastVersions = fails 2

@@ -5,7 +5,7 @@ ghost use Rattle.fields.specs.Fields.{u32Field, iVec3Field, dVec3Field, bytesFi
 ghost use Rattle.fields.specs.Inner.{saysU32, saysIVec3, saysDVec3, saysSpan};
 ghost use Rattle.descriptor.specs.Descriptor.{namesField};
 ghost use Rattle.descriptor.specs.Inner.{saysNames};
-ghost use Rattle.reader.specs.Inner.{readerAt, behind, reading, namesOf};
+ghost use Rattle.reader.specs.Inner.{readerAt, behind, reading, namesOf, versionsOf, versionsField, saysVersions};
 use descriptor::GridNames;
 use descriptor::NamesField;
 use fields::DVec3Field;
@@ -17,6 +17,18 @@ use fields::U32Field;
 pub struct Reader<'a> {
     pub src: &'a [u8],
     pub at: usize,
+}
+
+// Three of the header's numbers: the file's version, and two of the library that wrote it.
+pub struct Versions {
+    pub file_version: u32,
+    pub library_version_major: u32,
+    pub library_version_minor: u32,
+}
+
+pub enum VersionsField {
+    Got(Versions, usize),
+    Past,
 }
 
 // A reader at the file's start.
@@ -140,4 +152,39 @@ pub fn read_names(s: &[u8], at: usize) -> NamesField
     let grid_type = read_name(&mut reader);
     let instance_parent = read_name(&mut reader);
     names_of(name, grid_type, instance_parent)
+}
+
+// The header's three numbers, of three fields read in a row.
+fn versions_of(version: U32Field, major: U32Field, minor: U32Field) -> VersionsField
+    ensures { λ r. ⌜ saysVersions r ≡ versionsOf (saysU32 version) (saysU32 major) (saysU32 minor) ⌝ }
+{
+    match version {
+        U32Field::Past => VersionsField::Past,
+        U32Field::Got(file_version, _) => match major {
+            U32Field::Past => VersionsField::Past,
+            U32Field::Got(library_version_major, _) => match minor {
+                U32Field::Past => VersionsField::Past,
+                U32Field::Got(library_version_minor, n) => {
+                    let versions = Versions {
+                        file_version,
+                        library_version_major,
+                        library_version_minor,
+                    };
+                    VersionsField::Got(versions, n)
+                }
+            },
+        },
+    }
+}
+
+// The header's three numbers, read by a reader, as they stand there: whether the version is one that is covered is asked by the crate header.
+pub fn read_versions(s: &[u8], at: usize) -> VersionsField
+    ensures { λ r. ⌜ saysVersions r ≡ versionsField (now (s .entry)) at ⌝ }
+{
+    let mut reader = new(s);
+    reader.at = at;
+    let version = read_u32(&mut reader);
+    let major = read_u32(&mut reader);
+    let minor = read_u32(&mut reader);
+    versions_of(version, major, minor)
 }

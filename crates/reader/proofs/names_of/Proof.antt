@@ -1,12 +1,12 @@
 use borrow.Author.Needs.{needs}
 use Rattle.fields.specs.Inner.{saysSpan}
 use Rattle.fields.proofs.Steps.{then-by, steps}
-use Rattle.reader.specs.Inner.{namesOf}
+use Rattle.reader.specs.Inner.{inRow}
 use Rattle.reader.proofs.names_of.Statement.{statement}
 use Rattle.reader.proofs.names_of.Tie as tie
 
 pub names-of-spec : {M : Type 1} → statement M
-unfolding namesOf
+unfolding inRow
 names-of-spec =
     tie.close
     (tie.spec
