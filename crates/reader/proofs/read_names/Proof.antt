@@ -1,4 +1,6 @@
 -- `reader::read_names` meets its contract: `meets` at three strings, which `names_of` joins. Assumes nothing.
+use base.Logic.{emp}
+use contract.Monad.{factI}
 use contract.Running.{givenOf, tables, tablesOf}
 use denote.Triple.Spec.{tripleOf}
 use denote.Triple.Table.{entered, cited}
@@ -39,7 +41,7 @@ unfolding code.routine tablesOf namesField
 read-names-spec 𝓤 H 𝓜 𝓖 𝓡 =
     entered 𝓤 H (tripleOf 𝓤 H (𝓖 .A) whole.signature (whole.spec 𝓤 H (𝓖 .A) (𝓜 .mem) (𝓡 .run)))
     (tables 𝓤 H 𝓜 𝓡 code.env .C) (tables 𝓤 H 𝓜 𝓡 code.env .Λ) name code.function (code.unfolded 𝓤 H 𝓜 𝓡)
-    (meets names 𝓤 H (𝓖 .A) (givenOf 𝓤 H 𝓜 𝓖) (tablesOf 𝓤 H 𝓜 (tables 𝓤 H 𝓜 𝓡 code.env))
+    (meets names 𝓤 H (𝓖 .A) (givenOf 𝓤 H 𝓜 𝓖) (tablesOf 𝓤 H 𝓜 (tables 𝓤 H 𝓜 𝓡 code.env)) (whole.clauses 𝓤 H (𝓖 .A) (𝓜 .mem) (𝓡 .run)) (λ κ s at g r e. factI 𝓤 _ (emp 𝓤) e)
     (cited 𝓤 H (New 𝓤 H (𝓖 .A)) 𝓜 𝓡 code.env new.name new.routine code.calls-reader·new (new-thm.met 𝓤 H 𝓜 𝓖 𝓡))
     (cited 𝓤 H (Read string 𝓤 H (𝓖 .A)) 𝓜 𝓡 code.env read.name read.routine code.calls-reader·read-name (read-thm.met 𝓤 H 𝓜 𝓖 𝓡))
     (cited 𝓤 H (Join names 𝓤 H (𝓖 .A)) 𝓜 𝓡 code.env join.name join.routine code.calls-reader·names-of (join-thm.met 𝓤 H 𝓜 𝓖 𝓡)))

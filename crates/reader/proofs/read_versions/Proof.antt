@@ -1,4 +1,6 @@
 -- `reader::read_versions` meets its contract: `meets` at three u32, which `versions_of` joins. Assumes nothing.
+use base.Logic.{emp}
+use contract.Monad.{factI}
 use contract.Running.{givenOf, tables, tablesOf}
 use denote.Triple.Spec.{tripleOf}
 use denote.Triple.Table.{entered, cited}
@@ -38,7 +40,7 @@ unfolding code.routine tablesOf versionsField
 read-versions-spec 𝓤 H 𝓜 𝓖 𝓡 =
     entered 𝓤 H (tripleOf 𝓤 H (𝓖 .A) whole.signature (whole.spec 𝓤 H (𝓖 .A) (𝓜 .mem) (𝓡 .run)))
     (tables 𝓤 H 𝓜 𝓡 code.env .C) (tables 𝓤 H 𝓜 𝓡 code.env .Λ) name code.function (code.unfolded 𝓤 H 𝓜 𝓡)
-    (meets versions 𝓤 H (𝓖 .A) (givenOf 𝓤 H 𝓜 𝓖) (tablesOf 𝓤 H 𝓜 (tables 𝓤 H 𝓜 𝓡 code.env))
+    (meets versions 𝓤 H (𝓖 .A) (givenOf 𝓤 H 𝓜 𝓖) (tablesOf 𝓤 H 𝓜 (tables 𝓤 H 𝓜 𝓡 code.env)) (whole.clauses 𝓤 H (𝓖 .A) (𝓜 .mem) (𝓡 .run)) (λ κ s at g r e. factI 𝓤 _ (emp 𝓤) e)
     (cited 𝓤 H (New 𝓤 H (𝓖 .A)) 𝓜 𝓡 code.env new.name new.routine code.calls-reader·new (new-thm.met 𝓤 H 𝓜 𝓖 𝓡))
     (cited 𝓤 H (Read u32 𝓤 H (𝓖 .A)) 𝓜 𝓡 code.env read.name read.routine code.calls-reader·read-u32 (read-thm.met 𝓤 H 𝓜 𝓖 𝓡))
     (cited 𝓤 H (Join versions 𝓤 H (𝓖 .A)) 𝓜 𝓡 code.env join.name join.routine code.calls-reader·versions-of (join-thm.met 𝓤 H 𝓜 𝓖 𝓡)))
