@@ -32,13 +32,12 @@ inRow joined a b c =
     then c λ z n.
     got (joined x y z) n
 
--- a descriptor's three names from three strings
-abbrev pub namesOf : Parse Span → Parse Span → Parse Span → Parse GridNames
-namesOf = inRow (λ name type parent. record { name = name; «grid_type» = type; «instance_parent» = parent })
+-- a descriptor's names, and the header's numbers, from three values
+abbrev pub names : Span → Span → Span → GridNames
+names name type parent = record { name = name; «grid_type» = type; «instance_parent» = parent }
 
--- the version and the library's two numbers from three fields
-abbrev pub versionsOf : Parse ℕ → Parse ℕ → Parse ℕ → Parse Versions
-versionsOf = inRow (λ version major minor. record { «file_version» = version; «library_version_major» = major; «library_version_minor» = minor })
+abbrev pub versions : ℕ → ℕ → ℕ → Versions
+versions version major minor = record { «file_version» = version; «library_version_major» = major; «library_version_minor» = minor }
 
 -- section 2: what stands behind the header's magic, the version first, then two numbers of the library; only check 2 is made
 unfoldable pub versionsField : List ℕ → ℕ → Parse Versions
@@ -46,7 +45,7 @@ versionsField s at =
     then (u32Field s at) λ version p.
     then (u32Field s p) λ major q.
     then (u32Field s q) λ minor n.
-    got (record { «file_version» = version; «library_version_major» = major; «library_version_minor» = minor }) n
+    got (versions version major minor) n
 
 -- what the code's answer says
 abbrev pub saysVersions : VersionsField → Parse Versions

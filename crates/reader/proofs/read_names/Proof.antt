@@ -9,6 +9,7 @@ use Rattle.descriptor.specs.Inner.{saysNames}
 use Rattle.descriptor.specs.declared.GridNames.{GridNames}
 use Rattle.descriptor.proofs.NamesField as T
 use Rattle.descriptor.proofs.NamesField.Laws as L
+use Rattle.reader.specs.Inner.{names}
 use Rattle.reader.proofs.Field.{Read}
 use Rattle.reader.proofs.Sorts.{string}
 use Rattle.reader.proofs.Three.{Three, New, Join, meets}
@@ -23,15 +24,15 @@ use Rattle.reader.proofs.read_names as whole
 use Rattle.reader.proofs.read_names.Statement as stated
 use Rattle.reader.proofs.read_names.Code as code
 
-abbrev names : Three
-names = record {
+abbrev three : Three
+three = record {
   kind = string;
   type = T.the-type;
   laws = L.the-laws;
   few = tt;
   Value = GridNames;
   tells = saysNames;
-  joined = λ name type parent. record { name = name; «grid_type» = type; «instance_parent» = parent };
+  joined = names;
   #read = read.name;
   #join = join.name;
 }
@@ -41,7 +42,7 @@ unfolding code.routine tablesOf namesField
 read-names-spec 𝓤 H 𝓜 𝓖 𝓡 =
     entered 𝓤 H (tripleOf 𝓤 H (𝓖 .A) whole.signature (whole.spec 𝓤 H (𝓖 .A) (𝓜 .mem) (𝓡 .run)))
     (tables 𝓤 H 𝓜 𝓡 code.env .C) (tables 𝓤 H 𝓜 𝓡 code.env .Λ) name code.function (code.unfolded 𝓤 H 𝓜 𝓡)
-    (meets names 𝓤 H (𝓖 .A) (givenOf 𝓤 H 𝓜 𝓖) (tablesOf 𝓤 H 𝓜 (tables 𝓤 H 𝓜 𝓡 code.env)) (whole.clauses 𝓤 H (𝓖 .A) (𝓜 .mem) (𝓡 .run)) (λ κ s at g r e. factI 𝓤 _ (emp 𝓤) e)
+    (meets three 𝓤 H (𝓖 .A) (givenOf 𝓤 H 𝓜 𝓖) (tablesOf 𝓤 H 𝓜 (tables 𝓤 H 𝓜 𝓡 code.env)) (whole.clauses 𝓤 H (𝓖 .A) (𝓜 .mem) (𝓡 .run)) (λ κ s at g r e. factI 𝓤 _ (emp 𝓤) e)
     (cited 𝓤 H (New 𝓤 H (𝓖 .A)) 𝓜 𝓡 code.env new.name new.routine code.calls-reader·new (new-thm.met 𝓤 H 𝓜 𝓖 𝓡))
     (cited 𝓤 H (Read string 𝓤 H (𝓖 .A)) 𝓜 𝓡 code.env read.name read.routine code.calls-reader·read-name (read-thm.met 𝓤 H 𝓜 𝓖 𝓡))
-    (cited 𝓤 H (Join names 𝓤 H (𝓖 .A)) 𝓜 𝓡 code.env join.name join.routine code.calls-reader·names-of (join-thm.met 𝓤 H 𝓜 𝓖 𝓡)))
+    (cited 𝓤 H (Join three 𝓤 H (𝓖 .A)) 𝓜 𝓡 code.env join.name join.routine code.calls-reader·names-of (join-thm.met 𝓤 H 𝓜 𝓖 𝓡)))
