@@ -373,14 +373,24 @@ module _ {M : Type 1} (𝓤 : URA M) (H : Heap 𝓤) (A : Atoms 𝓤) (W : Given
     turns : (t : State) → Sq W (At t) (runs C Λ En body.turn-1 (anyQ (Turned t)))
     unfolding afterTurn
     turns t =
-        assigns ! (of-opd ! (load ! (from ! (fld ! refl (stop !))) (look-in ! 28 (sub ! 1 refl (whole !))))) (from ! (stop !)) (init ! 18 refl (tt, record { fits = of-count (t .0 .portion)
-        (t .1) })) $
+        assigns ! (of-opd ! (load ! (from ! (fld ! refl (stop !))) (look-in ! 28 (sub ! 1 refl (whole !))))) (from ! (stop !)) (init ! 18 refl (
+          tt,
+          record {
+            fits = of-count (t .0 .portion)
+                (t .1);
+          },
+        )) $
         assigns ! (bin ! (load ! (from ! (stop !)) (look ! 24 refl)) (load ! (from ! (stop !)) (look ! 18 refl)) tt) (from ! (stop !)) (init ! 16 refl (tt, tt)) $
         tests ! (load ! (from ! (stop !)) (look ! 16 refl))
         (λ less. let h = ltb→lt (t .0 .j) (t .0 .portion .count) less in forget ! 16 refl $ forget ! 18 refl $
         stores (t .0 .portion) (t .0 .i) (t .0 .j) (t .0 .ys) (t .1) (in-row h) (t .0 .long) (in-portion h)
-        (assigns ! (of-opd ! (load ! (from ! (fld ! refl (stop !))) (look-in ! 28 (sub ! 1 refl (whole !))))) (from ! (stop !)) (init ! 18 refl (tt, record { fits = of-count (t .0 .portion)
-        (t .1) })) $
+        (assigns ! (of-opd ! (load ! (from ! (fld ! refl (stop !))) (look-in ! 28 (sub ! 1 refl (whole !))))) (from ! (stop !)) (init ! 18 refl (
+          tt,
+          record {
+            fits = of-count (t .0 .portion)
+                (t .1);
+          },
+        )) $
         assigns ! (bin ! (load ! (from ! (stop !)) (look ! 24 refl)) (load ! (from ! (stop !)) (look ! 18 refl)) tt) (from ! (stop !)) (init ! 16 refl (tt, tt)) $
         branches ! (load ! (from ! (stop !)) (look ! 16 refl))
         (λ last. forget ! 16 refl $ forget ! 18 refl $ refills (t .0 .portion) (t .0 .i + 1) (t .0 .j + 1) (set (t .0 .ys) (t .0 .i) (recordAt (t .0 .portion) (t .0 .j))) (t .1) t (λ r e is-r.

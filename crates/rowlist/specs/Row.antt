@@ -1,0 +1,6 @@
+-- An empty slot.
+use lib.IntN.{pos}
+use Rattle.rows.specs.declared.Record.{Record}
+
+abbrev pub none : Record
+none = record { x = pos 0; y = pos 0; z = pos 0; level = 0; value = 0 }
