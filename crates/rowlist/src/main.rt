@@ -1,5 +1,6 @@
-// Lists the records of a file's first grid, a line each, as `listing` does, but walks into a row of record structs. The row has 100 slots, so that a
-// call takes several portions of the core's, and the last of these is no full one.
+// The two forms with a struct behind a reference at work: the header's version and library numbers, read by a reader; then the records of the first
+// grid, a line each, as `listing` prints them, walked into a row of record structs. The row has 100 slots, so that a call takes several portions of
+// the core's, and the last of these is no full one.
 ghost use Prim.Native.Nat.{_≤_};
 ghost use lib.ListN.{replicate};
 ghost use Rattle.walk.specs.Walk.{Promise};
@@ -9,6 +10,7 @@ use asking::show;
 use grid::GridAnswer;
 use grid::OpenedGrid;
 use place::Place;
+use reader::VersionsField;
 use rows::Record;
 use walk::WalkAnswer;
 
@@ -97,7 +99,22 @@ fn list_grid(s: &[u8], g: OpenedGrid) {
     list(s, fresh, g.active_count);
 }
 
+// They stand behind the eight bytes of the magic.
+fn versions(s: &[u8]) {
+    match reader::read_versions(s, 8) {
+        VersionsField::Past => {}
+        VersionsField::Got(v, _) => {
+            show::text(b"version");
+            show::small(v.file_version);
+            show::small(v.library_version_major);
+            show::small(v.library_version_minor);
+            show::letter(b'\n');
+        }
+    }
+}
+
 fn list_file(s: &[u8]) {
+    versions(s);
     match grid::open_grid_numbered(s, 0) {
         GridAnswer::Grid(g) => list_grid(s, g),
         GridAnswer::Refused(k) => refused(k),
