@@ -5,7 +5,7 @@ ghost use Prim.Native.Nat.{_≤_};
 ghost use lib.ListN.{replicate};
 ghost use Rattle.walk.specs.Walk.{Promise};
 ghost use Rattle.rows.specs.Rows.{columns};
-ghost use Rattle.rowlist.specs.Row.{none};
+ghost use Rattle.rowlist.specs.Inner.{none};
 use asking::show;
 use grid::GridAnswer;
 use grid::OpenedGrid;

@@ -58,7 +58,7 @@ use Rattle.rows.proofs.walk_records as fill
 use Rattle.rows.proofs.walk_records.Symbol as fill-def
 use Rattle.rows.proofs.walk_records.Symbol.{name as #rows·walk-records}
 use Rattle.rows.proofs.walk_records.Met as fill-thm
-use Rattle.rowlist.specs.Row.{none}
+use Rattle.rowlist.specs.Inner.{none}
 use Rattle.rowlist.specs.declared.Row.{Row}
 use Rattle.rowlist.proofs.LentArray.{array-lends, array-back}
 use Rattle.rowlist.proofs.Row as S

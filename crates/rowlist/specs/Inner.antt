@@ -1,3 +1,4 @@
+-- Inner matter: only contracts of inner functions cite it, and nothing here has to be believed.
 -- An empty slot.
 use lib.IntN.{pos}
 use Rattle.rows.specs.declared.Record.{Record}
