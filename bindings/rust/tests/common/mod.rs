@@ -1,0 +1,91 @@
+//! The files of the tests.
+#![allow(dead_code)]
+
+use std::fs;
+use std::path::{Path, PathBuf};
+
+pub fn repository() -> PathBuf {
+    Path::new(env!("CARGO_MANIFEST_DIR")).join("../..")
+}
+
+pub fn cloud(name: &str) -> PathBuf {
+    repository().join("crates/questions/data").join(name)
+}
+
+pub fn read(name: &str) -> Vec<u8> {
+    fs::read(cloud(name)).unwrap()
+}
+
+/// Case A of document 01, section 9.
+pub fn case_a() -> Vec<u8> {
+    fs::read(repository().join("crates/listing/stdin")).unwrap()
+}
+
+/// A line of openvdb.txt: the file, the grid's number if it has one, and what OpenVDB says.
+pub fn openvdb() -> Vec<(String, Option<u32>, String)> {
+    let lines = fs::read_to_string(Path::new(env!("CARGO_MANIFEST_DIR")).join("tests/openvdb.txt")).unwrap();
+    let parse = |line: &str| {
+        let (file, rest) = line.split_once(' ').unwrap();
+        let (first, behind) = rest.split_once(' ').unwrap();
+        match first.parse() {
+            Ok(number) => (file.to_string(), Some(number), behind.to_string()),
+            Err(_) => (file.to_string(), None, rest.to_string()),
+        }
+    };
+    lines.lines().map(parse).collect()
+}
+
+/// FNV-1a of 64 bits, as openvdb.py has it.
+pub fn digest(text: &str) -> u64 {
+    text.bytes().fold(0xcbf29ce484222325, |d, byte| (d ^ u64::from(byte)).wrapping_mul(0x100000001b3))
+}
+
+/// Case A with bytes put in place of those at a position.
+pub fn a_with(at: usize, bytes: &[u8]) -> Vec<u8> {
+    let mut file = case_a();
+    file[at..at + bytes.len()].copy_from_slice(bytes);
+    file
+}
+
+/// The examples of document 01's table in section 8 that are files, by the number of their check; 1, 11, 21 and 22 are no files of A's size.
+pub fn refused_files() -> Vec<(u32, Vec<u8>)> {
+    let word = |at, n: u32| a_with(at, &n.to_le_bytes());
+    // Twice "d": a second descriptor at the end of the first.
+    let mut twice = word(61, 2);
+    let mut second = twice[65..118].to_vec();
+    second[45..53].copy_from_slice(&9690u64.to_le_bytes());
+    twice.extend_from_slice(&second);
+    // The parent "q": one byte more before the positions, all three of which move.
+    let mut parent = word(90, 1);
+    for (at, position) in [(94, 119), (102, 9569), (110, 9638u64)] {
+        parent[at..at + 8].copy_from_slice(&position.to_le_bytes());
+    }
+    parent.insert(94, b'q');
+    // AffineMap: one byte more behind the positions; the last two move.
+    let mut affine = word(126, 9);
+    for (at, position) in [(102, 9569), (110, 9638u64)] {
+        affine[at..at + 8].copy_from_slice(&position.to_le_bytes());
+    }
+    affine.splice(130..138, *b"AffineMap");
+    let both = case_a()[4382 + 132] | 2;
+    vec![
+        (2, case_a()[..64].to_vec()),
+        (3, a_with(0, &[0x21])),
+        (4, word(8, 219)),
+        (5, a_with(20, &[0])),
+        (6, word(118, 3)),
+        (7, word(118, 8)),
+        (8, word(61, 65)),
+        (9, a_with(110, &9638u64.to_le_bytes())),
+        (10, twice),
+        (12, a_with(74, b"Tree_int32_5_4_3")),
+        (13, parent),
+        (14, affine),
+        (15, word(258, 2)),
+        (16, word(270, 257)),
+        (17, a_with(274, &[1, 0, 0, 0, 0, 0, 0, 0, 0, 0, 0, 0])),
+        (18, a_with(4382 + 132, &[both])),
+        (19, a_with(8478, &[7])),
+        (20, a_with(9568, &[0; 64])),
+    ]
+}
