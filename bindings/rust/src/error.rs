@@ -1,11 +1,11 @@
-//! The refusals: the 22 checks of document 01, section 8.
+//! The refusals: the 22 checks of docs/FORMAT.md, 8.
 
 use core::fmt;
 
 /// Declares the error with its numbers and texts from one table.
 macro_rules! checks {
     ($($number:literal $name:ident $text:literal)*) => {
-        /// Why the reader refused: the first check that failed, with its number in document 01.
+        /// Why the reader refused: the first check that failed, with its number (docs/FORMAT.md of the repository, 8).
         #[derive(Clone, Copy, Debug, PartialEq, Eq, Hash)]
         #[non_exhaustive]
         pub enum ParseError {

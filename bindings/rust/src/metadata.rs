@@ -69,7 +69,7 @@ impl<'f> Metadata<'f> {
 
 /// The names of [`Metadata::names`].
 ///
-/// The library answers for a name; which names there are is read here, by the layout of document 01, section 2.
+/// The library answers for a name; which names there are is read here, by the layout of docs/FORMAT.md, 2.
 #[derive(Clone)]
 pub struct Names<'f> {
     rest: Rest<'f>,

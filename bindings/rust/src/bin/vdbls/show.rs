@@ -1,0 +1,247 @@
+//! A whole file: its header, its metadata, its grids.
+
+use crate::survey::Survey;
+use crate::{json, progress, Failure};
+use std::collections::HashSet;
+use std::io::{self, Write};
+use wuraiko::{Compression, Grid, GridDescriptor, Map, Metadata, MetadataValue, ParseError, VdbReader};
+
+/// Bytes in quotes; what a terminal should not get is escaped.
+pub fn quoted(bytes: &[u8]) -> String {
+    let mut text = String::from('"');
+    for chunk in bytes.utf8_chunks() {
+        for c in chunk.valid().chars() {
+            match c {
+                '\'' => text.push(c),
+                c => text.extend(c.escape_debug()),
+            }
+        }
+        text.extend(chunk.invalid().iter().map(|byte| format!("\\x{byte:02x}")));
+    }
+    text + "\""
+}
+
+/// A number with a comma before each three digits.
+fn grouped(n: u64) -> String {
+    let digits = n.to_string();
+    let mut text = String::new();
+    for (i, digit) in digits.chars().enumerate() {
+        if i > 0 && (digits.len() - i) % 3 == 0 {
+            text.push(',');
+        }
+        text.push(digit);
+    }
+    text
+}
+
+/// Each name once, at its first place in the file.
+fn names<'f>(metadata: &Metadata<'f>) -> Vec<&'f [u8]> {
+    let mut seen = HashSet::new();
+    metadata.names().filter(|name| seen.insert(*name)).collect()
+}
+
+/// What was found in a grid.
+struct Found<'f> {
+    grid: Grid<'f>,
+    survey: Survey,
+}
+
+fn find<'f>(what: &str, reader: &VdbReader<'f>, n: u32) -> Result<Result<Found<'f>, ParseError>, Failure> {
+    progress::say(&format!("opening grid {n}"));
+    let opened = reader.read_grid_numbered(n);
+    progress::clear();
+    match opened {
+        Err(e) => Ok(Err(e)),
+        Ok(grid) => Ok(Ok(Found { grid, survey: Survey::new(what, &grid)? })),
+    }
+}
+
+/// Shows the file, all of its grids, also behind one that is refused.
+pub fn file(path: &str, bytes: &[u8], reader: &VdbReader, as_json: bool, out: &mut impl Write) -> Result<(), Failure> {
+    let mut refusals = Vec::new();
+    if as_json {
+        json_head(path, bytes, reader, out)?;
+    } else {
+        text_head(path, bytes, reader, out)?;
+    }
+    for (n, descriptor) in (0..).zip(reader.grid_descriptors()) {
+        // What is known is shown while the grid is read.
+        out.flush()?;
+        let what = format!("{path}: grid {}", quoted(descriptor.name));
+        let found = find(&what, reader, n)?;
+        if as_json {
+            out.write_all(if n == 0 { b"\n" } else { b",\n" })?;
+            json_grid(&descriptor, &found, out)?;
+        } else {
+            text_grid(n, &descriptor, &found, out)?;
+        }
+        if let Err(e) = found {
+            refusals.push((what, e));
+        }
+    }
+    if as_json {
+        out.write_all(b"\n]}\n")?;
+    }
+    if refusals.is_empty() {
+        Ok(())
+    } else {
+        Err(Failure::Refused(refusals))
+    }
+}
+
+fn text_head(path: &str, bytes: &[u8], reader: &VdbReader, out: &mut impl Write) -> io::Result<()> {
+    let h = &reader.header;
+    writeln!(out, "{path}: {} bytes", grouped(bytes.len() as u64))?;
+    writeln!(out, "  version     {}, library {}.{}", h.file_version, h.library_version_major, h.library_version_minor)?;
+    writeln!(out, "  identity    {}", quoted(h.guid))?;
+    if h.packed {
+        writeln!(out, "  packed      yes")?;
+    }
+    writeln!(out, "  grids       {}", h.grid_count)?;
+    text_metadata(&h.meta_data, out)
+}
+
+fn text_metadata(metadata: &Metadata, out: &mut impl Write) -> io::Result<()> {
+    let names = names(metadata);
+    if names.is_empty() {
+        return writeln!(out, "  metadata    none");
+    }
+    writeln!(out, "  metadata")?;
+    let width = names.iter().map(|name| quoted(name).chars().count()).max().unwrap_or(0).min(32);
+    for name in names {
+        if let Ok(value) = metadata.get(name) {
+            writeln!(out, "    {:width$}  {}", quoted(name), text_value(value))?;
+        }
+    }
+    Ok(())
+}
+
+/// The kind and the value; of long raw values the first bytes.
+fn text_value(value: MetadataValue) -> String {
+    match value {
+        MetadataValue::String(text) => format!("string  {}", quoted(text)),
+        MetadataValue::Bool(value) => format!("bool    {value}"),
+        MetadataValue::I32(n) => format!("int32   {n}"),
+        MetadataValue::I64(n) => format!("int64   {n}"),
+        MetadataValue::Float(value) => format!("float   {value:?} ({:08x})", value.to_bits()),
+        MetadataValue::Vec3i([x, y, z]) => format!("vec3i   {x} {y} {z}"),
+        MetadataValue::Unknown { name, data } if data.len() > 16 => {
+            format!("{}  {} bytes: {}..", quoted(name), data.len(), json::hex(&data[..16]))
+        }
+        MetadataValue::Unknown { name, data } => format!("{}  {} bytes: {}", quoted(name), data.len(), json::hex(data)),
+    }
+}
+
+/// How values are stored, in words.
+fn stored(descriptor: &GridDescriptor) -> String {
+    let flags = descriptor.compression;
+    let values = if flags.contains(Compression::ACTIVE_MASK) { "active values" } else { "all values" };
+    let width = if descriptor.meta_data.is_half_float() { " as halves" } else { "" };
+    let packed = match (flags.contains(Compression::ZIP), flags.contains(Compression::BLOSC)) {
+        (false, false) => "unpacked",
+        (true, false) => "packed with ZIP",
+        (false, true) => "packed with Blosc",
+        (true, true) => "packed with ZIP and Blosc",
+    };
+    format!("{values}{width}, {packed} (flags {})", flags.bits())
+}
+
+fn text_vector([x, y, z]: [f64; 3]) -> String {
+    format!("{x:?} {y:?} {z:?}")
+}
+
+fn text_map(map: &Map) -> String {
+    match map {
+        Map::UniformScaleMap { scale_values, .. } => format!("scale {}", text_vector(*scale_values)),
+        Map::ScaleTranslateMap { translation, scale_values, .. } => {
+            format!("scale {}, translation {}", text_vector(*scale_values), text_vector(*translation))
+        }
+    }
+}
+
+fn text_grid(n: u32, descriptor: &GridDescriptor, found: &Result<Found, ParseError>, out: &mut impl Write) -> io::Result<()> {
+    writeln!(out, "\ngrid {n}: {}", quoted(descriptor.name))?;
+    writeln!(out, "  type        {}", quoted(descriptor.grid_type).trim_matches('"'))?;
+    if !descriptor.instance_parent.is_empty() {
+        writeln!(out, "  parent      {}", quoted(descriptor.instance_parent))?;
+    }
+    writeln!(out, "  stored      {}", stored(descriptor))?;
+    match found {
+        Err(e) => writeln!(out, "  refused     {}: {}", e.number(), e.text())?,
+        Ok(Found { grid, survey }) => {
+            let [voxels, eights, big] = survey.levels.map(grouped);
+            writeln!(out, "  transform   {}", text_map(&grid.transform))?;
+            writeln!(out, "  background  {:?} ({:08x})", grid.background(), grid.background().to_bits())?;
+            writeln!(out, "  records     {}: {voxels} of side 1, {eights} of side 8, {big} of side 128", grouped(grid.active_count()))?;
+            writeln!(out, "  voxels      {} active", grouped(survey.voxels()))?;
+            writeln!(out, "  leaves      {}", grouped(grid.leaf_count()))?;
+            match survey.corners {
+                None => writeln!(out, "  box         empty")?,
+                Some(([a, b, c], [d, e, f])) => writeln!(out, "  box         {a} {b} {c} to {d} {e} {f}")?,
+            }
+        }
+    }
+    text_metadata(&descriptor.meta_data, out)
+}
+
+fn json_head(path: &str, bytes: &[u8], reader: &VdbReader, out: &mut impl Write) -> io::Result<()> {
+    let h = &reader.header;
+    writeln!(out, "{{\"file\": {}, \"bytes\": {},", json::text(path.as_bytes()), bytes.len())?;
+    writeln!(out, " \"version\": {}, \"library\": [{}, {}],", h.file_version, h.library_version_major, h.library_version_minor)?;
+    writeln!(out, " \"identity\": {}, \"packed\": {},", json::text(h.guid), h.packed)?;
+    writeln!(out, " \"metadata\": {},", json_metadata(&h.meta_data))?;
+    write!(out, " \"grids\": [")
+}
+
+/// A list of objects: names that are no UTF-8 cannot be keys.
+fn json_metadata(metadata: &Metadata) -> String {
+    let entry = |name: &[u8]| {
+        let (kind, value) = json_value(metadata.get(name).ok()?);
+        Some(format!("{{\"name\": {}, \"kind\": {kind}, \"value\": {value}}}", json::text(name)))
+    };
+    let entries: Vec<_> = names(metadata).into_iter().filter_map(entry).collect();
+    format!("[{}]", entries.join(", "))
+}
+
+fn json_value(value: MetadataValue) -> (String, String) {
+    let kind = |name: &str| json::text(name.as_bytes());
+    match value {
+        MetadataValue::String(text) => (kind("string"), json::text(text)),
+        MetadataValue::Bool(value) => (kind("bool"), value.to_string()),
+        MetadataValue::I32(n) => (kind("int32"), n.to_string()),
+        MetadataValue::I64(n) => (kind("int64"), n.to_string()),
+        MetadataValue::Float(value) => (kind("float"), json::float(value)),
+        MetadataValue::Vec3i(vector) => (kind("vec3i"), json::corner(vector)),
+        MetadataValue::Unknown { name, data } => (json::text(name), format!("{{\"hex\": \"{}\"}}", json::hex(data))),
+    }
+}
+
+fn json_map(map: &Map) -> String {
+    match map {
+        Map::UniformScaleMap { scale_values, .. } => format!("{{\"scale\": {}}}", json::vector(*scale_values)),
+        Map::ScaleTranslateMap { translation, scale_values, .. } => {
+            format!("{{\"scale\": {}, \"translation\": {}}}", json::vector(*scale_values), json::vector(*translation))
+        }
+    }
+}
+
+fn json_grid(descriptor: &GridDescriptor, found: &Result<Found, ParseError>, out: &mut impl Write) -> io::Result<()> {
+    write!(out, "  {{\"name\": {}, \"type\": {}", json::text(descriptor.name), json::text(descriptor.grid_type))?;
+    write!(out, ", \"parent\": {}, \"flags\": {}", json::text(descriptor.instance_parent), descriptor.compression.bits())?;
+    writeln!(out, ", \"half\": {},", descriptor.meta_data.is_half_float())?;
+    match found {
+        Err(e) => writeln!(out, "   \"refused\": {}, \"why\": {},", e.number(), json::text(e.text().as_bytes()))?,
+        Ok(Found { grid, survey }) => {
+            let background = grid.background();
+            write!(out, "   \"transform\": {}, \"background\": {}", json_map(&grid.transform), json::float(background))?;
+            writeln!(out, ", \"background_bits\": \"{:08x}\",", background.to_bits())?;
+            write!(out, "   \"records\": {}, \"levels\": {:?}", grid.active_count(), survey.levels)?;
+            write!(out, ", \"voxels\": {}, \"leaves\": {}, \"box\": ", survey.voxels(), grid.leaf_count())?;
+            match survey.corners {
+                None => writeln!(out, "null,")?,
+                Some((low, high)) => writeln!(out, "[{}, {}],", json::corner(low), json::corner(high))?,
+            }
+        }
+    }
+    write!(out, "   \"metadata\": {}}}", json_metadata(&descriptor.meta_data))
+}

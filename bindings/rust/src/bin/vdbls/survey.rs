@@ -1,0 +1,39 @@
+//! What the active list of a grid adds up to.
+
+use crate::records::for_each;
+use crate::Failure;
+use wuraiko::{Grid, VdbLevel};
+
+/// The records by level, and the box around all their voxels.
+#[derive(Default)]
+pub struct Survey {
+    pub levels: [u64; 3],
+    /// The lowest and the highest voxel; none for an empty list.
+    pub corners: Option<([i32; 3], [i32; 3])>,
+}
+
+impl Survey {
+    pub fn new(what: &str, grid: &Grid) -> Result<Self, Failure> {
+        let mut survey = Self::default();
+        for_each(what, grid, |record| {
+            let side = VdbLevel::from_number(record.level).map_or(1, VdbLevel::side);
+            // The whole cube lies within i32: the tree's root does.
+            let top = record.corner.map(|low| low.wrapping_add(side as i32 - 1));
+            let (low, high) = survey.corners.get_or_insert((record.corner, top));
+            for axis in 0..3 {
+                low[axis] = low[axis].min(record.corner[axis]);
+                high[axis] = high[axis].max(top[axis]);
+            }
+            if let Some(count) = survey.levels.get_mut(record.level as usize) {
+                *count += 1;
+            }
+            Ok(())
+        })?;
+        Ok(survey)
+    }
+
+    /// How many voxels are active, root tiles apart.
+    pub fn voxels(&self) -> u64 {
+        self.levels[0] + 512 * self.levels[1] + 2_097_152 * self.levels[2]
+    }
+}
