@@ -48,6 +48,11 @@
 #![no_std]
 #![deny(unsafe_code, missing_docs)]
 
+/// The examples of the page for those who come from vdb-rs are run with the tests.
+#[cfg(doctest)]
+#[doc = include_str!("../../../docs/MOVING.md")]
+struct Moving;
+
 mod error;
 mod metadata;
 mod sys;
