@@ -62,6 +62,8 @@ pub use error::ParseError;
 pub use metadata::{Metadata, MetadataValue, Names};
 pub use walk::{walk, Iter, Place, VdbLevel, Walked};
 
+use core::fmt;
+use metadata::Text;
 use sys::Asked;
 
 /// The bytes of the file at a start and a length from the library, which promises that they lie in the file.
@@ -70,7 +72,7 @@ fn span(file: &[u8], start: u64, len: u64) -> &[u8] {
 }
 
 /// What a file's header says.
-#[derive(Clone, Copy)]
+#[derive(Clone, Copy, Debug)]
 pub struct ArchiveHeader<'f> {
     /// The file's version, 220 to 224.
     pub file_version: u32,
@@ -114,7 +116,7 @@ impl Compression {
 }
 
 /// What the file says of a grid before it is opened.
-#[derive(Clone, Copy)]
+#[derive(Clone, Copy, Debug)]
 pub struct GridDescriptor<'f> {
     /// The grid's name. Names are bytes, most often UTF-8.
     pub name: &'f [u8],
@@ -316,6 +318,13 @@ impl<'f> VdbReader<'f> {
     }
 }
 
+// The file's bytes are not shown.
+impl fmt::Debug for VdbReader<'_> {
+    fn fmt(&self, f: &mut fmt::Formatter<'_>) -> fmt::Result {
+        f.debug_struct("VdbReader").field("header", &self.header).finish_non_exhaustive()
+    }
+}
+
 /// An opened grid. It lives no longer than the bytes that it was opened from.
 #[derive(Clone, Copy)]
 pub struct Grid<'f> {
@@ -384,6 +393,18 @@ impl<'f> Grid<'f> {
     /// The same for the leaves from number `first` on, 512 slots each, with one opening of the grid.
     pub fn fill_leaves(&self, first: u64, slots: &mut [u32]) -> Result<(), ParseError> {
         sys::fill_leaves(self.file, self.descriptor.name, first, slots)
+    }
+}
+
+impl fmt::Debug for Grid<'_> {
+    fn fmt(&self, f: &mut fmt::Formatter<'_>) -> fmt::Result {
+        f.debug_struct("Grid")
+            .field("name", &Text(self.descriptor.name))
+            .field("transform", &self.transform)
+            .field("background", &self.background())
+            .field("active_count", &self.active_count)
+            .field("leaf_count", &self.leaf_count)
+            .finish_non_exhaustive()
     }
 }
 

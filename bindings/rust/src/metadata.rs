@@ -1,6 +1,7 @@
 //! Metadata of a file and of a grid.
 
 use crate::{span, sys, ParseError};
+use core::fmt;
 
 /// The metadata of a file or of a grid.
 #[derive(Clone, Copy)]
@@ -64,6 +65,21 @@ impl<'f> Metadata<'f> {
         let mut rest = Rest(usize::try_from(self.start).ok().and_then(|start| self.file.get(start..)).unwrap_or(&[]));
         let left = rest.number().unwrap_or(0);
         Names { rest, left }
+    }
+}
+
+impl fmt::Debug for Metadata<'_> {
+    fn fmt(&self, f: &mut fmt::Formatter<'_>) -> fmt::Result {
+        f.debug_map().entries(self.names().map(|name| (Text(name), self.get(name)))).finish()
+    }
+}
+
+/// Bytes that are shown as text.
+pub(crate) struct Text<'f>(pub &'f [u8]);
+
+impl fmt::Debug for Text<'_> {
+    fn fmt(&self, f: &mut fmt::Formatter<'_>) -> fmt::Result {
+        write!(f, "\"{}\"", self.0.escape_ascii())
     }
 }
 

@@ -290,3 +290,14 @@ fn an_iterator_knows_how_many_are_left() {
     }
     assert_eq!((iter.next(), iter.next()), (None, None));
 }
+
+#[test]
+fn what_is_shown_for_debugging_is_no_file() {
+    let file = read("fog_active.vdb");
+    let reader = VdbReader::new(&file).unwrap();
+    let grid = reader.read_grid("density").unwrap();
+    let (reader, grid, descriptor) = (format!("{reader:?}"), format!("{grid:?}"), format!("{:?}", grid.descriptor));
+    assert!(reader.contains("file_version: 224") && reader.len() < 1000);
+    assert!(grid.contains("name: \"density\"") && grid.contains("active_count: 529") && grid.len() < 1000);
+    assert!(descriptor.contains("\"file_voxel_count\": Ok(I64(6294026))"));
+}

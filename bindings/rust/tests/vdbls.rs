@@ -124,7 +124,7 @@ fn records_as_json_are_the_same() {
     let as_json = out(&run(&[OsStr::new("--json"), OsStr::new("--records"), OsStr::new("0"), path.as_os_str()]));
     assert!(is_json(&as_json));
     let rows = as_json.lines().filter_map(|line| line.strip_prefix('[')?.split_once(']'));
-    let plain: Vec<_> = rows.map(|(row, _)| row.replace(',', "").replace('"', "")).collect();
+    let plain: Vec<_> = rows.map(|(row, _)| row.replace([',', '"'], "")).collect();
     assert_eq!(plain, text.lines().skip(1).collect::<Vec<_>>());
 }
 
@@ -267,4 +267,25 @@ fn a_broken_pipe_ends_it_silently() {
     drop(child.stdout.take());
     let output = child.wait_with_output().unwrap();
     assert_eq!((output.status.code(), err(&output).as_str()), (Some(0), ""));
+}
+
+#[test]
+fn many_entries_are_counted_and_a_repeated_one_is_shown_once() {
+    // The header of case A with 1,502 entries of kind int32, the last of which has the first one's name; no grid.
+    let mut file = case_a()[..57].to_vec();
+    file.extend(1502u32.to_le_bytes());
+    for i in 0..1502u32 {
+        file.extend(
+            [&[5, 0, 0, 0], format!("n{:04}", i % 1501).as_bytes(), &[5, 0, 0, 0], b"int32", &[4, 0, 0, 0], &i.to_le_bytes()].concat(),
+        );
+    }
+    file.extend(0u32.to_le_bytes());
+    let file = Kept::new("entries", &file);
+    let text = out(&run(&[&file.0]));
+    let entries: Vec<_> = text.lines().filter(|line| line.starts_with("    ")).collect();
+    assert_eq!(entries.len(), 1001);
+    assert_eq!((entries[0], entries[1]), ("    \"n0000\"  int32   1501", "    \"n0001\"  int32   1"));
+    assert_eq!(entries[1000], "    and 501 more");
+    let as_json = out(&run(&[OsStr::new("--json"), file.0.as_os_str()]));
+    assert!(is_json(&as_json) && as_json.contains("{\"more\": 501}]"));
 }

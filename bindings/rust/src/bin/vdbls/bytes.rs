@@ -1,4 +1,5 @@
 //! The bytes of a file: mapped where the system can, else read. The one unsafe place of the program.
+#![allow(unsafe_code)]
 
 use std::fs::File;
 use std::io::{self, Read};

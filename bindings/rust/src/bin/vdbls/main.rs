@@ -1,4 +1,5 @@
 //! vdbls: what is in an OpenVDB file, as the proved reader sees it.
+#![deny(unsafe_code)]
 
 mod bytes;
 mod json;

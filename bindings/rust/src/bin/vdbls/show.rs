@@ -34,10 +34,16 @@ fn grouped(n: u64) -> String {
     text
 }
 
-/// Each name once, at its first place in the file.
-fn names<'f>(metadata: &Metadata<'f>) -> Vec<&'f [u8]> {
+/// How many entries are shown: each one is asked for by its name, which takes a look at all of them.
+const MOST: usize = 1000;
+
+/// Each name once, at its first place in the file, and how many more there are than are shown.
+fn names<'f>(metadata: &Metadata<'f>) -> (Vec<&'f [u8]>, usize) {
     let mut seen = HashSet::new();
-    metadata.names().filter(|name| seen.insert(*name)).collect()
+    let mut names: Vec<_> = metadata.names().filter(|name| seen.insert(*name)).collect();
+    let more = names.len().saturating_sub(MOST);
+    names.truncate(MOST);
+    (names, more)
 }
 
 /// What was found in a grid.
@@ -102,7 +108,7 @@ fn text_head(path: &str, bytes: &[u8], reader: &VdbReader, out: &mut impl Write)
 }
 
 fn text_metadata(metadata: &Metadata, out: &mut impl Write) -> io::Result<()> {
-    let names = names(metadata);
+    let (names, more) = names(metadata);
     if names.is_empty() {
         return writeln!(out, "  metadata    none");
     }
@@ -112,6 +118,9 @@ fn text_metadata(metadata: &Metadata, out: &mut impl Write) -> io::Result<()> {
         if let Ok(value) = metadata.get(name) {
             writeln!(out, "    {:width$}  {}", quoted(name), text_value(value))?;
         }
+    }
+    if more > 0 {
+        writeln!(out, "    and {} more", grouped(more as u64))?;
     }
     Ok(())
 }
@@ -199,7 +208,11 @@ fn json_metadata(metadata: &Metadata) -> String {
         let (kind, value) = json_value(metadata.get(name).ok()?);
         Some(format!("{{\"name\": {}, \"kind\": {kind}, \"value\": {value}}}", json::text(name)))
     };
-    let entries: Vec<_> = names(metadata).into_iter().filter_map(entry).collect();
+    let (names, more) = names(metadata);
+    let mut entries: Vec<_> = names.into_iter().filter_map(entry).collect();
+    if more > 0 {
+        entries.push(format!("{{\"more\": {more}}}"));
+    }
     format!("[{}]", entries.join(", "))
 }
 
