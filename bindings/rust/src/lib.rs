@@ -325,7 +325,15 @@ impl fmt::Debug for VdbReader<'_> {
     }
 }
 
-/// An opened grid. It lives no longer than the bytes that it was opened from.
+/// An opened grid. It lives no longer than the bytes that it was opened from:
+///
+/// ```compile_fail,E0597
+/// let grid = {
+///     let file = std::fs::read("../../crates/listing/stdin").unwrap();
+///     wuraiko::VdbReader::new(&file).unwrap().read_grid("d").unwrap()
+/// };
+/// grid.active_count();
+/// ```
 #[derive(Clone, Copy)]
 pub struct Grid<'f> {
     file: &'f [u8],

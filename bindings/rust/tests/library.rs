@@ -2,7 +2,7 @@
 
 mod common;
 
-use common::{case_a, digest, openvdb, read, refused_files};
+use common::{case_a, digest, many_tiles, openvdb, read, refused_files};
 use std::collections::BTreeSet;
 use std::fmt::Write;
 use wuraiko::{walk, Grid, Map, MetadataValue, ParseError, Place, VdbLevel, VdbReader, Walked};
@@ -300,4 +300,30 @@ fn what_is_shown_for_debugging_is_no_file() {
     assert!(reader.contains("file_version: 224") && reader.len() < 1000);
     assert!(grid.contains("name: \"density\"") && grid.contains("active_count: 529") && grid.len() < 1000);
     assert!(descriptor.contains("\"file_voxel_count\": Ok(I64(6294026))"));
+}
+
+#[test]
+fn a_long_list_comes_in_portions() {
+    let (file, expected) = many_tiles();
+    let grid = VdbReader::new(&file).unwrap().read_grid("d").unwrap();
+    assert_eq!(listing(&iterated(&grid)), expected);
+    assert_eq!(listing(&walked(&file, &grid, 1000)), expected);
+}
+
+#[test]
+fn names_behind_a_wrong_length_are_found() {
+    // Of these kinds the length field is ignored.
+    let kinds = [("bool", 1), ("int32", 4), ("float", 4), ("int64", 8), ("vec3i", 12)];
+    let mut file = case_a()[..57].to_vec();
+    file.extend(5u32.to_le_bytes());
+    for (kind, size) in kinds {
+        let len = kind.len() as u32;
+        file.extend(
+            [&len.to_le_bytes()[..], kind.as_bytes(), &len.to_le_bytes(), kind.as_bytes(), &[77, 0, 0, 0], &vec![1; size]].concat(),
+        );
+    }
+    file.extend(0u32.to_le_bytes());
+    let metadata = VdbReader::new(&file).unwrap().header.meta_data;
+    assert_eq!(metadata.names().collect::<Vec<_>>(), kinds.map(|(kind, _)| kind.as_bytes()));
+    assert_eq!(metadata.get("vec3i"), Ok(MetadataValue::Vec3i([0x01010101; 3])));
 }

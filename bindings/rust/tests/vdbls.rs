@@ -2,7 +2,7 @@
 
 mod common;
 
-use common::{case_a, cloud, digest, openvdb, refused_files, repository};
+use common::{a_with, case_a, cloud, digest, many_tiles, openvdb, refused_files, repository};
 use std::ffi::OsStr;
 use std::fs;
 use std::io::Write;
@@ -225,7 +225,7 @@ fn a_packed_file_comes_with_a_way_to_convert_it() {
 #[test]
 fn a_name_goes_before_a_number() {
     // Case A with the grid's name "7".
-    let file = Kept::new("seven", &common::a_with(69, b"7"));
+    let file = Kept::new("seven", &a_with(69, b"7"));
     let path = file.0.as_os_str();
     let named = run(&[OsStr::new("--records"), OsStr::new("7"), path]);
     let numbered = run(&[OsStr::new("--records"), OsStr::new("0"), path]);
@@ -288,4 +288,32 @@ fn many_entries_are_counted_and_a_repeated_one_is_shown_once() {
     assert_eq!(entries[1000], "    and 501 more");
     let as_json = out(&run(&[OsStr::new("--json"), file.0.as_os_str()]));
     assert!(is_json(&as_json) && as_json.contains("{\"more\": 501}]"));
+}
+
+#[test]
+fn a_long_list_is_written_in_portions() {
+    let (bytes, expected) = many_tiles();
+    let file = Kept::new("tiles", &bytes);
+    let path = file.0.as_os_str();
+    assert!(out(&run(&[OsStr::new("--records"), OsStr::new("d"), path])) == expected);
+    let text = out(&run(&[path]));
+    assert_eq!(field(&text, "records"), "32,768: 1 of side 1, 0 of side 8, 32,767 of side 128");
+    // One voxel, and 32,767 cubes of 128 a side.
+    assert_eq!(field(&text, "voxels"), "68,717,379,585 active");
+    assert_eq!(field(&text, "box"), "-4096 0 4096 to -1 4095 8191");
+}
+
+#[test]
+fn any_name_is_shown_and_is_json() {
+    for (name, text, as_json) in [
+        (b"\"", "grid 0: \"\\\"\"", "{\"name\": \"\\\"\","),
+        (b"\\", "grid 0: \"\\\\\"", "{\"name\": \"\\\\\","),
+        (b"\x1b", "grid 0: \"\\u{1b}\"", "{\"name\": \"\\u001b\","),
+        (b"\xe9", "grid 0: \"\\xe9\"", "{\"name\": {\"hex\": \"e9\"},"),
+    ] {
+        let file = Kept::new(&format!("name-{}", name[0]), &a_with(69, name));
+        assert!(out(&run(&[&file.0])).contains(&format!("\n{text}\n")), "{text}");
+        let found = out(&run(&[OsStr::new("--json"), file.0.as_os_str()]));
+        assert!(is_json(&found) && found.contains(as_json), "{found}");
+    }
 }

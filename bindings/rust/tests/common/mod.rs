@@ -89,3 +89,24 @@ pub fn refused_files() -> Vec<(u32, Vec<u8>)> {
         (20, a_with(9568, &[0; 64])),
     ]
 }
+
+/// Case A with an active tile at each place of its 5-node but 1057, where the child is, and its listing by document 01, sections 4, 5 and 7: with flags 2
+/// and node byte 0 the values of the tiles follow the byte, lowest place first; here the value of place p is the pattern p.
+pub fn many_tiles() -> (Vec<u8>, String) {
+    let places = (0..32768).filter(|p| *p != 1057);
+    let mut file = case_a();
+    for p in places.clone() {
+        file[4382 + p / 8] |= 1 << (p % 8);
+    }
+    let values: Vec<u8> = places.clone().flat_map(|p| (p as u32).to_le_bytes()).collect();
+    file.splice(8479..8479, values.iter().copied());
+    for (at, position) in [(102, 9568), (110, 9637)] {
+        file[at..at + 8].copy_from_slice(&(position + values.len() as u64).to_le_bytes());
+    }
+    let mut listing = "records 32768\n-3847 249 4346 0 3f800000\n".to_string();
+    for p in places {
+        let [x, y, z] = [p / 1024, p / 32 % 32, p % 32].map(|n| 128 * n as i32);
+        listing += &format!("{} {y} {} 2 {p:08x}\n", x - 4096, z + 4096);
+    }
+    (file, listing)
+}
