@@ -5,7 +5,7 @@ mod common;
 use common::{case_a, digest, many_tiles, openvdb, read, refused_files};
 use std::collections::BTreeSet;
 use std::fmt::Write;
-use wuraiko::{walk, Grid, Map, MetadataValue, ParseError, Place, VdbLevel, VdbReader, Walked};
+use wuraiko::{walk, Compression, Grid, Map, MetadataValue, ParseError, Place, VdbLevel, VdbReader, Walked};
 
 type Record = (i32, i32, i32, u32, u32);
 
@@ -263,15 +263,19 @@ fn the_names_of_vdb_rs_give_what_openvdb_wrote() {
     assert_eq!(reader.header.guid, b"c10ad000-0000-4000-8000-000000000001");
     let grid = reader.read_grid("density").unwrap();
     assert_eq!(grid.descriptor.grid_type, b"Tree_float_5_4_3");
-    assert_eq!(grid.descriptor.compression.bits(), 2);
-    assert_eq!(grid.descriptor.aabb_min(), Some([-4096, -4096, -4096]));
-    assert_eq!(grid.descriptor.aabb_max(), Some([4095, 4095, 4346]));
+    let flags = grid.descriptor.compression;
+    assert!(flags.bits() == 2 && flags.contains(Compression::ACTIVE_MASK) && flags.contains(Compression::NONE));
+    assert!(!flags.contains(Compression::ZIP) && !flags.contains(Compression::BLOSC));
     assert_eq!(grid.descriptor.mem_bytes(), Some(994232));
     assert_eq!(grid.descriptor.voxel_count(), Some(6294026));
     assert_eq!(grid.metadata("class"), Ok(MetadataValue::String(b"fog volume")));
     assert!(!grid.descriptor.meta_data.is_half_float());
     assert!(matches!(grid.transform, Map::UniformScaleMap { voxel_size: [0.5, 0.5, 0.5], inv_scale_sqr: [4.0, 4.0, 4.0], .. }));
     assert_eq!((grid.background(), grid.active_count(), grid.leaf_count()), (0.0, 529, 6));
+    // The sphere that OpenVDB made.
+    let sphere = read("levelset_active.vdb");
+    let sphere = VdbReader::new(&sphere).unwrap().grid_descriptor_numbered(0).unwrap();
+    assert_eq!((sphere.aabb_min(), sphere.aabb_max()), (Some([-71, 58, -28]), Some([-55, 74, -12])));
     let half = read("half_active.vdb");
     assert!(VdbReader::new(&half).unwrap().grid_descriptor_numbered(0).unwrap().meta_data.is_half_float());
     // A has no such entries.
