@@ -197,6 +197,12 @@ fn each_refusal_has_its_number_and_status_1() {
         let output = run(&[&file.0]);
         assert_eq!(output.status.code(), Some(1), "check {number}");
         assert!(err(&output).contains(&format!(": refused {number}: ")), "check {number}");
+        for grid in [&["--json"][..], &["--json", "--records", "d"]] {
+            let as_json = program().args(grid).arg(&file.0).output().unwrap();
+            assert_eq!(as_json.status.code(), Some(1), "check {number}");
+            let as_json = out(&as_json);
+            assert!(is_json(&as_json) && as_json.contains(&format!("\"refused\": {number}, \"why\": ")), "check {number}");
+        }
     }
     let file = Kept::new("empty", b"");
     assert!(err(&run(&[&file.0])).contains(": refused 2: "));

@@ -94,7 +94,10 @@ fn run(call: &Call, out: &mut impl Write) -> Result<(), Failure> {
     let path = call.path.to_string_lossy();
     progress::allow(call.json || call.records.is_some());
     let file = bytes::of_file(call.path.as_ref()).map_err(|e| Failure::Input(format!("{path}: {e}")))?;
-    let reader = VdbReader::new(file).map_err(|e| Failure::refused(path.to_string(), e))?;
+    let reader = match VdbReader::new(file) {
+        Ok(reader) => reader,
+        Err(e) => return refused(call, &path, e, out),
+    };
     let Some(asked) = &call.records else {
         return show::file(&path, file, &reader, call.json, out);
     };
@@ -102,8 +105,19 @@ fn run(call: &Call, out: &mut impl Write) -> Result<(), Failure> {
     progress::say("opening the grid");
     let grid = find(&reader, asked.as_encoded_bytes());
     progress::clear();
-    let grid = grid.map_err(|e| Failure::refused(what.clone(), e))?;
-    records::write(&what, &grid, call.json, out)
+    match grid {
+        Ok(grid) => records::write(&what, &grid, call.json, out),
+        Err(e) => refused(call, &what, e, out),
+    }
+}
+
+/// The refusal of all that was asked for; with --json it is also the output.
+fn refused(call: &Call, what: &str, e: ParseError, out: &mut impl Write) -> Result<(), Failure> {
+    if call.json {
+        let path = json::text(call.path.as_encoded_bytes());
+        writeln!(out, "{{\"file\": {path}, \"refused\": {}, \"why\": {}}}", e.number(), json::text(e.text().as_bytes()))?;
+    }
+    Err(Failure::refused(what.to_string(), e))
 }
 
 /// What can be done about a refusal.
@@ -122,27 +136,21 @@ It keeps the grids, but turns their order round and leaves out the file's own me
     }
 }
 
-/// Says on standard error what went wrong, and gives the exit status.
-fn report(failure: Failure, path: &str) -> u8 {
-    progress::clear();
+/// What went wrong, for standard error, and the exit status.
+fn report(failure: Failure, path: &str) -> (String, u8) {
     match failure {
         // The reader of the output has seen enough.
-        Failure::Output(e) if e.kind() == ErrorKind::BrokenPipe => return 0,
-        Failure::Output(e) => eprintln!("vdbls: cannot write: {e}"),
-        Failure::Usage(what) => eprintln!("vdbls: {what}; `vdbls --help` tells more"),
-        Failure::Input(what) => eprintln!("vdbls: {what}"),
+        Failure::Output(e) if e.kind() == ErrorKind::BrokenPipe => (String::new(), 0),
+        Failure::Output(e) => (format!("vdbls: cannot write: {e}\n"), 2),
+        Failure::Usage(what) => (format!("vdbls: {what}; `vdbls --help` tells more\n"), 2),
+        Failure::Input(what) => (format!("vdbls: {what}\n"), 2),
         Failure::Refused(refusals) => {
-            for (what, e) in &refusals {
-                eprintln!("vdbls: {what}: refused {}: {}", e.number(), e.text());
-            }
+            let line = |(what, e): &(String, ParseError)| format!("vdbls: {what}: refused {}: {}\n", e.number(), e.text());
             let advised: BTreeSet<_> = refusals.iter().filter_map(|(_, e)| advice(*e, path)).collect();
-            for advice in advised {
-                eprintln!("{advice}");
-            }
-            return 1;
+            let said: String = refusals.iter().map(line).chain(advised.iter().map(|advice| format!("{advice}\n"))).collect();
+            (said, 1)
         }
     }
-    2
 }
 
 fn main() -> ExitCode {
@@ -154,8 +162,10 @@ fn main() -> ExitCode {
     };
     // What was found before a refusal is written before the refusal is reported.
     let written = out.flush().map_err(Failure::from);
-    match answer.and(written) {
-        Ok(()) => ExitCode::SUCCESS,
-        Err(failure) => ExitCode::from(report(failure, &path)),
-    }
+    let Err(failure) = answer.and(written) else { return ExitCode::SUCCESS };
+    progress::clear();
+    let (said, status) = report(failure, &path);
+    // Where standard error is closed, the status still tells.
+    let _ = io::stderr().write_all(said.as_bytes());
+    ExitCode::from(status)
 }
