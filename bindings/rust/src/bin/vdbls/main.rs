@@ -102,7 +102,7 @@ fn run(call: &Call, out: &mut impl Write) -> Result<(), Failure> {
         return show::file(&path, file, &reader, call.json, out);
     };
     let what = format!("{path}: grid {}", show::quoted(asked.as_encoded_bytes()));
-    progress::say("opening the grid");
+    progress::opening(file);
     let grid = find(&reader, asked.as_encoded_bytes());
     progress::clear();
     match grid {

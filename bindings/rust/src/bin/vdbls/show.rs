@@ -53,7 +53,6 @@ struct Found<'f> {
 }
 
 fn find<'f>(what: &str, reader: &VdbReader<'f>, n: u32) -> Result<Result<Found<'f>, ParseError>, Failure> {
-    progress::say(&format!("opening grid {n}"));
     let opened = reader.read_grid_numbered(n);
     progress::clear();
     match opened {
@@ -74,6 +73,7 @@ pub fn file(path: &str, bytes: &[u8], reader: &VdbReader, as_json: bool, out: &m
         // What is known is shown while the grid is read.
         out.flush()?;
         let what = format!("{path}: grid {}", quoted(descriptor.name));
+        progress::opening(bytes);
         let found = find(&what, reader, n)?;
         if as_json {
             out.write_all(if n == 0 { b"\n" } else { b",\n" })?;
