@@ -1,7 +1,7 @@
 #!/usr/bin/env python3
 """Prints a cloud in the text of README.md, by document 01: over the Python reader of tools/questions.
 
-    by_document.py FILE [--values]
+    by_document.py FILE [--values] [--more]
 """
 import os
 import sys
@@ -42,10 +42,10 @@ def node(reader, coding, places):
 
 
 def tree(reader, coding):
-    """The pieces in list order, each with its origin, side, step, level, mask and values; a leaf's values are
-    not yet known."""
+    """The background, and the pieces in list order, each with its origin, side, step, level, mask and values; a leaf's
+    values are not yet known."""
     by.check(reader.u32() == 1, 15)
-    _, tiles, roots = reader.u32(), reader.u32(), reader.u32()
+    background, tiles, roots = reader.u32(), reader.u32(), reader.u32()
     by.check(roots <= 256, 16)
     reader.take(17 * tiles)
     origins, pieces = set(), []
@@ -61,10 +61,10 @@ def tree(reader, coding):
                 pieces.append((by.moved(origin4, place4, 16, 8), 8, 1, 0, reader.mask(512), None))
             pieces.append((origin4, 16, 8, 1, value4, stored4))
         pieces.append((origin, 32, 128, 2, value5, stored5))
-    return pieces
+    return background, pieces
 
 
-def grid_lines(data, file, grid, values):
+def grid_lines(data, file, grid, values, more):
     by.check(grid.type[2] in (b'Tree_float_5_4_3', b'Tree_float_5_4_3_HalfFloat'), 12)
     by.check(not grid.parent[2], 13)
     by.check(not grid.flags & 5, 6)
@@ -72,7 +72,7 @@ def grid_lines(data, file, grid, values):
     coding = by.Coding(file.version, grid.flags, 2 if half else 4)
     reader = by.Reader(data, grid.tree)
     case, doubles = by.transform(reader)
-    pieces = tree(reader, coding)
+    background, pieces = tree(reader, coding)
     reader = by.Reader(data, grid.block)
     leaves, records = [], []
     for origin, side, step, level, mask, stored in pieces:
@@ -84,15 +84,17 @@ def grid_lines(data, file, grid, values):
     yield 'map ' + NAMES[case]
     for at in range(0, len(doubles), 3):
         yield 'vector ' + ' '.join('%016x' % double for double in doubles[at:at + 3])
+    if more:
+        yield 'background %08x' % background
     yield 'leaves %d' % len(leaves)
     for number, (origin, stored) in enumerate(leaves):
         yield from canonical.leaf_lines(number, origin, [stored.at(place) for place in range(512)], values)
     yield 'records %d' % len(records)
     for record in records:
-        yield canonical.record_line(*record)
+        yield canonical.record_line(*record, more)
 
 
-def lines(data, values=False):
+def lines(data, values=False, more=False):
     yield 'file %d' % len(data)
     try:
         file = by.File(data)
@@ -112,11 +114,11 @@ def lines(data, values=False):
         yield 'flags %d' % grid.flags
         yield from entry_lines(grid.entries)
         try:
-            yield from list(grid_lines(data, file, grid, values))
+            yield from list(grid_lines(data, file, grid, values, more))
         except by.Refused as refused:
             yield 'refused %s' % refused
 
 
 if __name__ == '__main__':
-    with open(next(word for word in sys.argv[1:] if word != '--values'), 'rb') as source:
-        print('\n'.join(lines(source.read(), '--values' in sys.argv)))
+    with open(next(word for word in sys.argv[1:] if not word.startswith('--')), 'rb') as source:
+        print('\n'.join(lines(source.read(), '--values' in sys.argv, '--more' in sys.argv)))

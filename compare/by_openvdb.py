@@ -1,7 +1,7 @@
 #!/usr/bin/env python3
 """Prints a cloud in the text of README.md, as OpenVDB's own library has it.
 
-    by_openvdb.py DESCRIBE FILE [--document] [--values]
+    by_openvdb.py DESCRIBE FILE [--document] [--values] [--more]
 
 DESCRIBE is the program that tools/openvdb builds. With --document a leaf's inactive places hold what
 document 01 says, zero where no value is read, and not the background.
@@ -45,7 +45,7 @@ def plain(name):
     return re.sub(r'\\(x..|.)', lambda m: m[1] if len(m[1]) == 1 else chr(int(m[1][1:], 16)), name[1:-1])
 
 
-def rewritten(lines, filled, values):
+def rewritten(lines, filled, values, more):
     """The lines of a part, of the file or of a grid. Where something is refused, what the text of README.md does not
     have before a refusal is left out: the header, or a grid's map."""
     entries, records, refused = [], False, lines[-1].startswith('refused')
@@ -58,10 +58,10 @@ def rewritten(lines, filled, values):
             entries = []
         if records:
             *corner, level, pattern = line.split()
-            yield canonical.record_line([int(number) for number in corner], int(level), int(pattern, 16))
+            yield canonical.record_line([int(number) for number in corner], int(level), int(pattern, 16), more)
         elif word == 'file':
             yield 'file ' + rest.split()[-1]
-        elif word in ('version', 'library', 'grids', 'positions', 'flags', 'vector', 'refused'):
+        elif word in ('version', 'library', 'grids', 'positions', 'flags', 'vector', 'refused') or more and word == 'background':
             yield line
         elif word in ('identity', 'type', 'parent'):
             yield word + ' ' + rest.split(' ', 2)[2]
@@ -85,7 +85,8 @@ def rewritten(lines, filled, values):
 
 
 def main(arguments):
-    values, side = '--values' in arguments, 'document' if '--document' in arguments else 'openvdb'
+    values, more = '--values' in arguments, '--more' in arguments
+    side = 'document' if '--document' in arguments else 'openvdb'
     describe, path = [word for word in arguments if not word.startswith('--')]
     parts = [[]]
     for line in described(describe, path):
@@ -93,7 +94,7 @@ def main(arguments):
             parts.append([])
         parts[-1].append(line)
     filled = leaves(describe, path, side)
-    head, *grids = ['\n'.join(rewritten(part, filled.get(number - 1, []), values)) for number, part in enumerate(parts)]
+    head, *grids = ['\n'.join(rewritten(part, filled.get(number - 1, []), values, more)) for number, part in enumerate(parts)]
     grids.sort(key=lambda text: plain(text.splitlines()[0].partition(' ')[2]))
     print('\n'.join([head, *grids]))
 

@@ -3,6 +3,7 @@
 
     canonical.py ONE OTHER      prints what two texts tell differently; exit status 1 if there is such a thing
 """
+import re
 import struct
 import sys
 
@@ -34,12 +35,17 @@ def leaf_lines(number, origin, patterns, values):
             yield 'values ' + ' '.join('%08x' % pattern for pattern in patterns[at:at + 8])
 
 
-def record_line(corner, level, pattern):
-    """Coordinates are rounded to 32-bit floats, as the Rust gives them."""
+def record_line(corner, level, pattern, more=False):
+    """Coordinates are rounded to 32-bit floats, as the Rust gives them; with `more`, X Y Z are not."""
     bits = [struct.pack('<f', number) for number in corner]
     rounded = [int(struct.unpack('<f', four)[0]) for four in bits]
     patterns = [struct.unpack('<I', four)[0] for four in bits]
-    return 'record %d %d %d %08x %08x %08x %d %08x' % (*rounded, *patterns, level, pattern)
+    return 'record %d %d %d %08x %08x %08x %d %08x' % (*(corner if more else rounded), *patterns, level, pattern)
+
+
+def without_origins(text):
+    """The text as a reader has it that tells no leaf's origin."""
+    return re.sub(r'^leaf (\d+) \S+ \S+ \S+', r'leaf \1 - - -', text, flags=re.MULTILINE)
 
 
 def items(text):
@@ -67,7 +73,7 @@ def items(text):
 
 
 KINDS = {'version': 'header', 'library': 'header', 'identity': 'header', 'grids': 'header',
-         'entries': 'metadata', 'entry': 'metadata', 'map': 'transform', 'vector': 'transform',
+         'entries': 'metadata', 'entry': 'metadata', 'map': 'transform', 'vector': 'transform', 'background': 'transform',
          'leaves': 'leaves', 'leaf': 'leaves', 'values': 'leaves',
          'records': 'active items', 'record': 'active items'}
 

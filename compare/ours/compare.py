@@ -1,0 +1,129 @@
+#!/usr/bin/env python3
+"""Compares our reader with another one over clouds.
+
+    compare.py DUMP document FILE ..               with document 01, by the Python reader: every line must be equal
+    compare.py DUMP openvdb DESCRIBE FILE ..       with OpenVDB's library: every line must be equal
+    compare.py DUMP rust RUST FILE ..              with the Rust: apart from the differences that rust/listed.py knows
+
+DUMP, DESCRIBE and RUST are the three programs. The walk gets an odd number of slots. With OpenVDB, inactive places that
+hold no value read are zero, as in document 01; the leaves that differ from what OpenVDB itself has there, the background,
+are counted. Prints what is otherwise and what was compared; exits with 1 if anything is on no list.
+"""
+import os
+import re
+import subprocess
+import sys
+
+HERE = os.path.dirname(os.path.abspath(__file__))
+ABOVE = os.path.dirname(HERE)
+sys.path[:0] = [ABOVE, os.path.join(ABOVE, 'rust')]
+import by_document  # noqa: E402
+import canonical  # noqa: E402
+import listed  # noqa: E402
+import rows  # noqa: E402
+
+
+def printed(*words):
+    return subprocess.run(words, capture_output=True, check=True).stdout.decode()
+
+
+def ours(dump, paths, *options):
+    """The text of each file; one run of the dumper is given many of them."""
+    for at in range(0, len(paths), 200):
+        text = printed(dump, '--slots', '77', *options, *paths[at:at + 200])
+        yield from re.split(r'^(?=file )', text, flags=re.MULTILINE)[1:]
+
+
+def by_our_document(path):
+    with open(path, 'rb') as source:
+        return '\n'.join(by_document.lines(source.read(), more=True)) + '\n'
+
+
+def by_our_openvdb(describe, path, *side):
+    return printed(sys.executable, os.path.join(ABOVE, 'by_openvdb.py'), describe, path, '--more', *side)
+
+
+def first_difference(one, other):
+    """The first line that is otherwise."""
+    one, other = one.splitlines(), other.splitlines()
+    for number in range(max(len(one), len(other))):
+        pair = [text[number] if number < len(text) else 'nothing' for text in (one, other)]
+        if pair[0] != pair[1]:
+            return 'line %d: %s | %s' % (number + 1, *pair)
+    return None
+
+
+class Counts:
+    """How many things of each kind were compared, and which refusals were met."""
+
+    def __init__(self):
+        self.kinds, self.refused, self.strange, self.rows, self.files = {}, {}, 0, {}, 0
+
+    def add(self, text, counts):
+        self.files += 1
+        for kind, count in counts.items():
+            self.kinds[kind] = self.kinds.get(kind, 0) + count
+        for number in re.findall(r'^refused (\d+)', text, flags=re.MULTILINE):
+            self.refused[int(number)] = self.refused.get(int(number), 0) + 1
+
+    def shown(self):
+        def listed_by(found, key=None):
+            return ', '.join('%d %s' % (count, kind) for kind, count in sorted(found.items(), key=key)) or 'none'
+        lines = ['%d files; compared: %s' % (self.files, listed_by(self.kinds)),
+                 'refusals: ' + (', '.join('%d times %d' % (count, number) for number, count in sorted(self.refused.items())) or 'none')]
+        if self.rows:
+            lines.append('listed differences: ' + listed_by(self.rows, key=lambda item: int(item[0][1:])))
+        return '\n'.join(lines + ['%d on no list' % self.strange])
+
+
+def exactly(dump, paths, other, counts):
+    for path, text in zip(paths, ours(dump, paths, '--more'), strict=True):
+        theirs = canonical.without_origins(other(path))
+        found = first_difference(text, theirs)
+        counts.add(text, canonical.differences(text, theirs)[0])
+        if found:
+            counts.strange += 1
+            print('%s: ours | other: %s' % (os.path.basename(path), found))
+
+
+def apart_from_listed(dump, rust, paths, counts):
+    for path, text in zip(paths, ours(dump, paths), strict=True):
+        theirs = canonical.without_origins(rows.dumped(rust, path, memory=12 << 30))
+        version = int(canonical.items(text).get((None, 'version'), 0))
+        compared, found = canonical.differences(theirs, text)
+        counts.add(text, compared)
+        for name, one, other in found:
+            row = listed.row(name, one, other, version)
+            if row:
+                counts.rows[row] = counts.rows.get(row, 0) + 1
+            else:
+                counts.strange += 1
+                print('%s %s: Rust %s | ours %s' % (os.path.basename(path), ' '.join(map(str, name)), one, other))
+
+
+def with_background(dump, describe, paths):
+    """How many leaves are otherwise with the background in inactive places."""
+    found = 0
+    for path, text in zip(paths, ours(dump, paths, '--more'), strict=True):
+        theirs = canonical.without_origins(by_our_openvdb(describe, path))
+        found += sum(name[1] == 'leaf' for name, *_ in canonical.differences(text, theirs)[1])
+    return found
+
+
+def main(dump, other, *words):
+    counts = Counts()
+    if other == 'document':
+        exactly(dump, words, by_our_document, counts)
+    elif other == 'openvdb':
+        describe, *paths = words
+        exactly(dump, paths, lambda path: by_our_openvdb(describe, path, '--document'), counts)
+        print('%d leaves equal by document 01 and not with the background in inactive places' % with_background(dump, describe, paths))
+    else:
+        rust, *paths = words
+        apart_from_listed(dump, rust, paths, counts)
+    print(counts.shown())
+    return 1 if counts.strange else 0
+
+
+if __name__ == '__main__':
+    sys.exit(main(*sys.argv[1:]))
