@@ -1,0 +1,71 @@
+"""The Python reader of document 01 with faults put into it on purpose: what a comparison must notice."""
+import os
+import sys
+import types
+
+HERE = os.path.dirname(os.path.abspath(__file__))
+SOURCES = [('document', os.path.join(HERE, '..', '..', 'tools', 'questions', 'document.py')), ('by_document', os.path.join(HERE, '..', 'by_document.py'))]
+
+# What the fault is, in which file, a text that stands there once, and what takes its place.
+FAULTS = [
+    ('version 225 accepted', 'document', '<= self.version <= 224', '<= self.version <= 225'),
+    ('version 220 refused', 'document', '220 <= self.version', '221 <= self.version'),
+    ('any offsets byte but 0 accepted', 'document', 'check(reader.u8() == 1, 5)', 'check(reader.u8() != 0, 5)'),
+    ('packed byte: only 1 counts', 'document', 'reader.u8() != 0', 'reader.u8() == 1'),
+    ('65 grids accepted', 'document', 'count <= 64', 'count <= 65'),
+    ('a position at the end of the file refused', 'document', 'found <= len(self.data)', 'found < len(self.data)'),
+    ('a field that ends with the file refused', 'document', 'self.at + size <= len(self.data)', 'self.at + size < len(self.data)'),
+    ('flags 8 accepted', 'document', 'self.flags <= 7', 'self.flags <= 8'),
+    ('repeated names accepted', 'document', 'check(grid.name[2] not in [other.name[2] for other in self.grids], 10)', ''),
+    ('magic and version: checks exchanged', 'document',
+     "        check(reader.take(8) == bytes.fromhex('2042445600000000'), 3)\n        self.version = reader.u32()\n        check(220 <= self.version <= 224, 4)\n",
+     "        magic = reader.take(8)\n        self.version = reader.u32()\n        check(220 <= self.version <= 224, 4)\n"
+     "        check(magic == bytes.fromhex('2042445600000000'), 3)\n"),
+    ('the end position checked after the flags', 'document',
+     "self.end = reader.position(), reader.position(), reader.position()\n        inner = Reader(reader.data, self.grid)\n"
+     "        self.flags = inner.u32() if version >= 222 else int(packed)\n        check(self.flags <= 7, 7)\n",
+     "self.end = reader.position(), reader.position(), *reader.numbers('Q')\n        inner = Reader(reader.data, self.grid)\n"
+     "        self.flags = inner.u32() if version >= 222 else int(packed)\n        check(self.flags <= 7, 7)\n"
+     "        check(self.end <= len(reader.data), 9)\n"),
+    ('a fixed kind skipped by its length', 'document', 'value = letter, reader.numbers(form)',
+     "value = letter, reader.numbers(form)\n            reader.take(max(0, length - struct.calcsize('<' + form)))"),
+    ('of one name the first entry counts', 'by_document', 'latest = dict(entries)', 'latest = dict(reversed(entries))'),
+    ('the first half entry counts', 'by_document', "dict(grid.entries).get", "dict(reversed(grid.entries)).get"),
+    ('a half entry of any kind counts', 'by_document', "== ('b', (True,))", "not in (None, ('b', (False,)))"),
+    ('packed and parent: checks exchanged', 'by_document', "    by.check(not grid.parent[2], 13)\n    by.check(not grid.flags & 5, 6)\n",
+     "    by.check(not grid.flags & 5, 6)\n    by.check(not grid.parent[2], 13)\n"),
+    ('257 roots accepted', 'by_document', 'roots <= 256', 'roots <= 257'),
+    ('tiles of 16 bytes', 'by_document', '17 * tiles', '16 * tiles'),
+    ('origins at multiples of 2048 accepted', 'by_document', 'number % 4096', 'number % 2048'),
+    ('a child and value bit at one place accepted', 'by_document', '    by.check(not child & value, 18)\n', ''),
+    ('node byte 7 accepted', 'document', 'byte <= 6', 'byte <= 7'),
+    ('inactive values widened as halves', 'document', 'self.first = reader.u32()', "self.first = widened(reader.numbers('H')[0]) if self.width == 2 else reader.u32()"),
+    ('the second inactive value where the selection bit is 0', 'document', 'self.second if self.selection >> place & 1 else self.first',
+     'self.first if self.selection >> place & 1 else self.second'),
+    ('a stored value numbered by the ones up to its place', 'document', '(1 << place) - 1)', '(2 << place) - 1)'),
+    ('values of a 5-node under 222 numbered by place', 'document', 'number = ones(self.stored & (1 << place) - 1)',
+     'number = place if 32000 < ones(self.stored) < 32768 else ones(self.stored & (1 << place) - 1)'),
+    ('the quiet bit not set', 'document', 'quiet = 0x400000 if fraction else 0', 'quiet = 0'),
+    ('a block\'s mask not compared', 'document', 'check(reader.mask(512) == mask, 20)', 'reader.mask(512)'),
+    ('a block\'s origin not compared', 'document', "check(reader.numbers('iii') == origin, 20)", "reader.numbers('iii')"),
+    ('a block\'s buffers not compared', 'document', 'check(reader.u8() == 1, 20)', 'reader.u8()'),
+    ('tiles of a 4-node before its leaves', 'by_document', 'pieces.append((origin4', 'pieces.insert(len(pieces) - by.ones(child4), (origin4'),
+]
+
+
+def models():
+    """What each fault is, and the module by_document with it."""
+    for what, name, old, new in FAULTS:
+        kept = {module: sys.modules.get(module) for module, _ in SOURCES}
+        for module, path in SOURCES:
+            with open(path, encoding='utf-8') as file:
+                source = file.read()
+            if module == name:
+                assert source.count(old) == 1, (what, source.count(old))
+                source = source.replace(old, new)
+            made = sys.modules[module] = types.ModuleType(module)
+            made.__file__ = path
+            exec(compile(source, path, 'exec'), made.__dict__)
+        found = sys.modules['by_document']
+        sys.modules.update(kept)
+        yield what, found
