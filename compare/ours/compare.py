@@ -28,9 +28,9 @@ def printed(*words):
 
 
 def ours(dump, paths, *options):
-    """The text of each file; one run of the dumper is given many of them."""
-    for at in range(0, len(paths), 200):
-        text = printed(dump, '--slots', '77', *options, *paths[at:at + 200])
+    """The text of each file; one run of the dumper is given several of them."""
+    for at in range(0, len(paths), 20):
+        text = printed(dump, '--slots', '77', *options, *paths[at:at + 20])
         yield from re.split(r'^(?=file )', text, flags=re.MULTILINE)[1:]
 
 
@@ -59,9 +59,9 @@ class Counts:
     def __init__(self):
         self.kinds, self.refused, self.strange, self.rows, self.files = {}, {}, 0, {}, 0
 
-    def add(self, text, counts):
+    def add(self, text, kinds):
         self.files += 1
-        for kind, count in counts.items():
+        for kind, count in kinds.items():
             self.kinds[kind] = self.kinds.get(kind, 0) + count
         for number in re.findall(r'^refused (\d+)', text, flags=re.MULTILINE):
             self.refused[int(number)] = self.refused.get(int(number), 0) + 1
@@ -76,14 +76,22 @@ class Counts:
         return '\n'.join(lines + ['%d on no list' % self.strange])
 
 
+def kinds(text):
+    """How many lines of each kind there are."""
+    found = {}
+    for word in re.findall(r'^\w+', text, flags=re.MULTILINE):
+        if word not in ('file', 'refused'):
+            found[canonical.kind((None, word))] = found.get(canonical.kind((None, word)), 0) + 1
+    return found
+
+
 def exactly(dump, paths, other, counts):
     for path, text in zip(paths, ours(dump, paths, '--more'), strict=True):
         theirs = canonical.without_origins(other(path))
-        found = first_difference(text, theirs)
-        counts.add(text, canonical.differences(text, theirs)[0])
-        if found:
+        counts.add(text, kinds(text))
+        if text != theirs:
             counts.strange += 1
-            print('%s: ours | other: %s' % (os.path.basename(path), found))
+            print('%s: ours | other: %s' % (os.path.basename(path), first_difference(text, theirs)))
 
 
 def apart_from_listed(dump, rust, paths, counts):
@@ -104,9 +112,10 @@ def apart_from_listed(dump, rust, paths, counts):
 def with_background(dump, describe, paths):
     """How many leaves are otherwise with the background in inactive places."""
     found = 0
-    for path, text in zip(paths, ours(dump, paths, '--more'), strict=True):
-        theirs = canonical.without_origins(by_our_openvdb(describe, path))
-        found += sum(name[1] == 'leaf' for name, *_ in canonical.differences(text, theirs)[1])
+    for path, text in zip(paths, ours(dump, paths), strict=True):
+        pair = [re.findall(r'^leaf .*', side, flags=re.MULTILINE)
+                for side in (text, canonical.without_origins(by_our_openvdb(describe, path)))]
+        found += sum(one != other for one, other in zip(*pair, strict=True))
     return found
 
 
