@@ -215,18 +215,19 @@ static void print_record(struct text *t, const int32_t at[3], uint32_t level, ui
             shown[2], bits[0], bits[1], bits[2], level, value);
 }
 
-/* The walk goes on until nothing is left, with all that it hands out. */
+/* The walk goes on until nothing is left; a walk that hands out more than there is comes to an end too. */
 static void print_records(struct text *t, uint64_t place[VDB_PLACE_WORDS], uint64_t count)
 {
     size_t n = t->options.slots;
-    uint64_t counts[VDB_WALK_COUNTS];
+    uint64_t counts[VDB_WALK_COUNTS], given = 0;
     int32_t *x = room(n, 4), *y = room(n, 4), *z = room(n, 4);
     uint32_t *level = room(n, 4), *value = room(n, 4);
     fprintf(t->out, "records %" PRIu64 "\n", count);
     do {
         if (refused(t, vdb_walk(t->file, t->file_len, place, x, n, y, n, z, n, level, n, value, n, counts))) break;
         for (uint64_t i = 0; i < counts[VDB_FILLED]; i++) print_record(t, (int32_t[]){x[i], y[i], z[i]}, level[i], value[i]);
-    } while (counts[VDB_LEFT] > 0);
+        given += counts[VDB_FILLED];
+    } while (counts[VDB_LEFT] > 0 && given <= count);
     free(x), free(y), free(z), free(level), free(value);
 }
 
