@@ -34,12 +34,12 @@ def ours(dump, paths, *options):
         yield from re.split(r'^(?=file )', text, flags=re.MULTILINE)[1:]
 
 
-def by_our_document(path):
+def document_text(path):
     with open(path, 'rb') as source:
         return '\n'.join(by_document.lines(source.read(), more=True)) + '\n'
 
 
-def by_our_openvdb(describe, path, *side):
+def openvdb_text(describe, path, *side):
     return printed(sys.executable, os.path.join(ABOVE, 'by_openvdb.py'), describe, path, '--more', *side)
 
 
@@ -59,9 +59,9 @@ class Counts:
     def __init__(self):
         self.kinds, self.refused, self.strange, self.rows, self.files = {}, {}, 0, {}, 0
 
-    def add(self, text, kinds):
+    def add(self, text, compared):
         self.files += 1
-        for kind, count in kinds.items():
+        for kind, count in compared.items():
             self.kinds[kind] = self.kinds.get(kind, 0) + count
         for number in re.findall(r'^refused (\d+)', text, flags=re.MULTILINE):
             self.refused[int(number)] = self.refused.get(int(number), 0) + 1
@@ -114,7 +114,7 @@ def with_background(dump, describe, paths):
     found = 0
     for path, text in zip(paths, ours(dump, paths), strict=True):
         pair = [re.findall(r'^leaf .*', side, flags=re.MULTILINE)
-                for side in (text, canonical.without_origins(by_our_openvdb(describe, path)))]
+                for side in (text, canonical.without_origins(openvdb_text(describe, path)))]
         found += sum(one != other for one, other in zip(*pair, strict=True))
     return found
 
@@ -122,10 +122,10 @@ def with_background(dump, describe, paths):
 def main(dump, other, *words):
     counts = Counts()
     if other == 'document':
-        exactly(dump, words, by_our_document, counts)
+        exactly(dump, words, document_text, counts)
     elif other == 'openvdb':
         describe, *paths = words
-        exactly(dump, paths, lambda path: by_our_openvdb(describe, path, '--document'), counts)
+        exactly(dump, paths, lambda path: openvdb_text(describe, path, '--document'), counts)
         print('%d leaves equal by document 01 and not with the background in inactive places' % with_background(dump, describe, paths))
     else:
         rust, *paths = words
