@@ -253,6 +253,24 @@ static void refused_fill(uint32_t n, uint64_t leaf, size_t slots, uint32_t expec
     HOLD(answer(vdb_fill_leaf_numbered(file, file_len, n, leaf, at, slots)) == expected);
 }
 
+/* Runs of leaves: each leaf as it is filled alone; no leaf behind the last, and whole leaves only. */
+static void runs(uint32_t n, const uint8_t *name, size_t name_len, uint64_t leaves)
+{
+    uint64_t first = below(leaves), run = below((leaves - first < 20 ? leaves - first : 20) + 1);
+    uint32_t alone[512], *slots = lend_anew(2048 * run);
+    HOLD(answer(vdb_fill_leaves_numbered(file, file_len, n, first, slots, 512 * run)) == 0);
+    for (uint64_t i = 0; i < run; i++) {
+        HOLD(vdb_fill_leaf_numbered(file, file_len, n, first + i, alone, 512) == 0);
+        HOLD(memcmp(alone, slots + 512 * i, sizeof alone) == 0);
+    }
+    calls += run;
+    slots = lend_anew(2048 * run + 4 + 4 * below(511));
+    HOLD(answer(vdb_fill_leaves_named(file, file_len, name, name_len, first, slots, lent_len[0] / 4)) == 21);
+    slots = lend_anew(2048 * 3);
+    HOLD(answer(vdb_fill_leaves_named(file, file_len, name, name_len, leaves - below(3), slots, 512 * 3)) == 21);
+    HOLD(answer(vdb_fill_leaves_numbered(file, file_len, n, (uint64_t)-1 >> below(16), slots, 512 * 3)) == 21);
+}
+
 static void fills(uint32_t n, const uint8_t *name, size_t name_len, uint64_t leaves)
 {
     static const size_t other[] = {0, 1, 511, 513, 1024};
@@ -266,6 +284,7 @@ static void fills(uint32_t n, const uint8_t *name, size_t name_len, uint64_t lea
     memcpy(first, lent_end[0] - 2048, 2048);
     HOLD(answer(vdb_fill_leaf_numbered(file, file_len, n, leaf, lend_anew(2048), 512)) == 0);
     HOLD(memcmp(first, lent_end[0] - 2048, 2048) == 0);
+    runs(n, name, name_len, leaves);
 }
 
 /* The same answer by name and by number. */

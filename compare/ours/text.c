@@ -190,16 +190,25 @@ static uint64_t digest(const uint32_t *values, size_t count)
     return found;
 }
 
+static void print_leaf(struct text *t, uint64_t number, const uint32_t values[512])
+{
+    fprintf(t->out, "leaf %" PRIu64 " - - - 512 %016" PRIx64 "\n", number, digest(values, 512));
+    for (size_t i = 0; t->options.values && i < 512; i++)
+        fprintf(t->out, "%s %08" PRIx32 "%s", i % 8 == 0 ? "values" : "", values[i], i % 8 == 7 ? "\n" : "");
+}
+
+/* RUN leaves a call: each call opens the grid. */
 static void print_leaves(struct text *t, const struct grid *grid, uint64_t count)
 {
+    enum { RUN = 256 };
+    uint32_t *slots = room(512 * RUN, 4);
     fprintf(t->out, "leaves %" PRIu64 "\n", count);
-    for (uint64_t leaf = 0; leaf < count; leaf++) {
-        uint32_t slots[512];
-        if (refused(t, vdb_fill_leaf_numbered(t->file, t->file_len, grid->number, leaf, slots, 512))) return;
-        fprintf(t->out, "leaf %" PRIu64 " - - - 512 %016" PRIx64 "\n", leaf, digest(slots, 512));
-        for (size_t i = 0; t->options.values && i < 512; i++)
-            fprintf(t->out, "%s %08" PRIx32 "%s", i % 8 == 0 ? "values" : "", slots[i], i % 8 == 7 ? "\n" : "");
+    for (uint64_t first = 0; first < count; first += RUN) {
+        uint64_t run = count - first < RUN ? count - first : RUN;
+        if (refused(t, vdb_fill_leaves_numbered(t->file, t->file_len, grid->number, first, slots, 512 * run))) break;
+        for (uint64_t i = 0; i < run; i++) print_leaf(t, first + i, slots + 512 * i);
     }
+    free(slots);
 }
 
 static void print_record(struct text *t, const int32_t at[3], uint32_t level, uint32_t value)
