@@ -22,7 +22,7 @@ mkdir -p "$build/crates"
 while read -r sum path; do
     deb=$build/debs/${path##*/}
     if ! echo "$sum  $deb" | sha256sum --status -c 2>/dev/null; then
-        curl -sfL --retry 2 -m 120 -o "$deb" "$pool/$path" || rm -f "$deb"
+        curl -sfL --retry 2 -m 120 -o "$deb" "${pool%/}/$path" || rm -f "$deb"
     fi
     if echo "$sum  $deb" | sha256sum --status -c 2>/dev/null; then
         dpkg-deb -x "$deb" "$build/unpacked"
