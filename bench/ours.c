@@ -1,0 +1,231 @@
+/*
+ * Measures libvdb.a, and beside it what bounds it: a memcpy of the file, and a plain loop that writes the same records.
+ *
+ *     ours FILE REPETITIONS    each repetition does everything in turn; the first one is not timed and prints counts and sums
+ *     ours FILE once           opens and walks once, with 4,096 slots, for a tool that counts instructions
+ */
+#include <stdlib.h>
+#include <string.h>
+
+#include "record.h"
+#include "vdb.h"
+
+enum { FEW = 64, SOME = 4096 };
+
+struct record {
+    int32_t x, y, z;
+    uint32_t level, value;
+};
+
+struct slots {
+    int32_t *x, *y, *z;
+    uint32_t *level, *value;
+};
+
+static const char *path;
+static uint8_t *file, *copy; /* the file's bytes, and as much memory again */
+static size_t len;
+static uint64_t opened[VDB_OPENED_WORDS], fresh[VDB_PLACE_WORDS];
+static size_t records, leaves;
+static struct slots row;      /* as many slots as there are records */
+static struct record *listed; /* the records once more, for the plain loop */
+static uint32_t *filled;      /* 512 slots for each leaf */
+
+/* The compiler must take what p points to as read and written here. */
+static inline void touch(const void *p) { __asm__ volatile("" : : "r"(p) : "memory"); }
+
+static void stop(const char *what)
+{
+    fprintf(stderr, "ours: %s\n", what);
+    exit(1);
+}
+
+/* Memory that is there before the clock starts. */
+static void *lent(size_t bytes)
+{
+    void *p = malloc(bytes + 1);
+    if (p == NULL) stop("no memory");
+    memset(p, 1, bytes);
+    touch(p);
+    return p;
+}
+
+static void load(uint8_t *to)
+{
+    FILE *f = fopen(path, "rb");
+    if (f == NULL) stop(path);
+    setvbuf(f, NULL, _IONBF, 0);
+    if (fread(to, 1, len, f) != len) stop(path);
+    fclose(f);
+}
+
+static void open_grid(const uint8_t *s, uint64_t place[VDB_PLACE_WORDS])
+{
+    if (vdb_open_grid_numbered(s, len, 0, opened, place) != 0) stop("refused");
+}
+
+static size_t walk(const uint8_t *s, uint64_t place[VDB_PLACE_WORDS], size_t slots)
+{
+    uint64_t counts[VDB_WALK_COUNTS];
+    if (vdb_walk(s, len, place, row.x, slots, row.y, slots, row.z, slots, row.level, slots, row.value, slots, counts) != 0) stop("refused");
+    return counts[VDB_FILLED];
+}
+
+static void walk_all(size_t slots)
+{
+    uint64_t place[VDB_PLACE_WORDS];
+    memcpy(place, fresh, sizeof place);
+    for (size_t done = 0; done < records;) done += walk(file, place, slots);
+}
+
+static uint64_t sum(size_t n)
+{
+    uint64_t total = 0;
+    for (size_t i = 0; i < n; i++) total += plain(row.x[i], row.y[i], row.z[i], row.level[i], row.value[i]);
+    return total;
+}
+
+/* Opens, walks in portions of so many slots, and adds up what the slots then hold: what a reader's user does. */
+static uint64_t whole(const uint8_t *s, size_t slots)
+{
+    uint64_t place[VDB_PLACE_WORDS], total = 0;
+    open_grid(s, place);
+    for (size_t done = 0, n; done < opened[VDB_OPENED_ACTIVE_COUNT]; done += n) {
+        n = walk(s, place, slots);
+        total += sum(n);
+    }
+    return total;
+}
+
+static void plain_loop(size_t slots)
+{
+    for (size_t from = 0; from < records; from += slots) {
+        const struct record *r = listed + from;
+        const size_t n = records - from < slots ? records - from : slots;
+        for (size_t i = 0; i < n; i++) {
+            row.x[i] = r[i].x;
+            row.y[i] = r[i].y;
+            row.z[i] = r[i].z;
+            row.level[i] = r[i].level;
+            row.value[i] = r[i].value;
+        }
+        touch(row.x);
+    }
+}
+
+static uint64_t leaf_sum(size_t n)
+{
+    uint64_t total = 0;
+    for (size_t i = 0; i < 512 * n; i++) total += filled[i];
+    return total;
+}
+
+static void fill_leaf(uint64_t leaf)
+{
+    if (vdb_fill_leaf_numbered(file, len, 0, leaf, filled, 512) != 0) stop("refused");
+}
+
+static void fill_leaves(void)
+{
+    if (vdb_fill_leaves_numbered(file, len, 0, 0, filled, 512 * leaves) != 0) stop("refused");
+}
+
+static void prepare(void)
+{
+    FILE *f = fopen(path, "rb");
+    if (f == NULL || fseek(f, 0, SEEK_END) != 0) stop(path);
+    len = (size_t)ftell(f);
+    fclose(f);
+    file = lent(len);
+    copy = lent(len);
+    load(file);
+    open_grid(file, fresh);
+    records = opened[VDB_OPENED_ACTIVE_COUNT];
+    leaves = opened[VDB_OPENED_LEAF_COUNT];
+    row = (struct slots){lent(4 * records), lent(4 * records), lent(4 * records), lent(4 * records), lent(4 * records)};
+    listed = lent(records * sizeof *listed);
+    filled = lent(4 * 512 * leaves);
+}
+
+/* Counts and sums, and `listed`. Each way to the records gives its own sum. */
+static void check(void)
+{
+    uint64_t total = 0, tiles = 0;
+    print_number("bytes", len);
+    print_number("records", records);
+    print_number("leaves", leaves);
+    print_number("sum", whole(file, FEW));
+    print_number("sum", whole(file, SOME));
+    print_number("sum", whole(file, records));
+    for (size_t i = 0; i < records; i++) {
+        listed[i] = (struct record){row.x[i], row.y[i], row.z[i], row.level[i], row.value[i]};
+        total += mixed(row.x[i], row.y[i], row.z[i], row.level[i], row.value[i]);
+        tiles += row.level[i] != 0;
+    }
+    print_number("mixed", total);
+    print_number("tiles", tiles);
+    plain_loop(records);
+    print_number("sum", sum(records));
+    fill_leaves();
+    print_number("leaf_sum", leaf_sum(leaves));
+    total = filled[512 * (leaves / 2)];
+    fill_leaf(leaves / 2);
+    if (filled[0] != total) stop("the fills differ");
+}
+
+static void measure(void)
+{
+    uint64_t place[VDB_PLACE_WORDS], total;
+    double from = now_ms();
+    memcpy(copy, file, len);
+    touch(copy);
+    print_time("memcpy", from);
+    from = now_ms();
+    open_grid(file, place);
+    print_time("open", from);
+    from = now_ms();
+    walk_all(FEW);
+    print_time("walk_64", from);
+    from = now_ms();
+    walk_all(SOME);
+    print_time("walk_4096", from);
+    from = now_ms();
+    plain_loop(SOME);
+    print_time("loop_4096", from);
+    from = now_ms();
+    walk_all(records);
+    print_time("walk_all", from);
+    from = now_ms();
+    plain_loop(records);
+    print_time("loop_all", from);
+    from = now_ms();
+    total = whole(file, SOME);
+    print_time("whole", from);
+    print_number("sum", total);
+    from = now_ms();
+    load(copy);
+    total = whole(copy, SOME);
+    print_time("whole_read", from);
+    print_number("sum", total);
+    from = now_ms();
+    fill_leaf(leaves / 2);
+    print_time("fill_leaf", from);
+    from = now_ms();
+    fill_leaves();
+    print_time("fill_leaves", from);
+    print_number("leaf_sum", leaf_sum(leaves));
+}
+
+int main(int count, char **argument)
+{
+    if (count != 3) stop("usage: ours FILE REPETITIONS|once");
+    path = argument[1];
+    prepare();
+    if (strcmp(argument[2], "once") == 0) {
+        walk_all(SOME);
+        return 0;
+    }
+    check();
+    for (int i = atoi(argument[2]); i > 0; i--) measure();
+    return 0;
+}
