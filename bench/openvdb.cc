@@ -81,16 +81,16 @@ static void check(const std::string& path)
 
 static void measure(const std::string& path)
 {
-    double from = now_ms();
+    moment from = start();
     const auto grid = read(path);
     print_time("openvdb_read", from);
-    from = now_ms();
+    from = start();
     print_number("sum", by_iterator(*grid, plain));
     print_time("openvdb_iterate", from);
-    from = now_ms();
+    from = start();
     print_number("sum", by_leaves(*grid));
     print_time("openvdb_by_leaves", from);
-    from = now_ms();
+    from = start();
     print_number("openvdb_leaf_sum", leaf_values(*grid));
     print_time("openvdb_leaf_values", from);
 }

@@ -7,14 +7,32 @@
 #include <stdio.h>
 #include <time.h>
 
-static inline double now_ms(void)
+/* The clock on the wall and the process's own processor time, in milliseconds. */
+struct moment {
+    double wall, processor;
+};
+
+static inline double clock_ms(clockid_t clock)
 {
     struct timespec t;
-    clock_gettime(CLOCK_MONOTONIC, &t);
+    clock_gettime(clock, &t);
     return (double)t.tv_sec * 1e3 + (double)t.tv_nsec / 1e6;
 }
 
-static inline void print_time(const char *name, double from) { printf("time %s %.6f\n", name, now_ms() - from); }
+static inline struct moment start(void)
+{
+    struct moment m;
+    m.processor = clock_ms(CLOCK_PROCESS_CPUTIME_ID);
+    m.wall = clock_ms(CLOCK_MONOTONIC);
+    return m;
+}
+
+static inline void print_time(const char *name, struct moment from)
+{
+    const double wall = clock_ms(CLOCK_MONOTONIC), processor = clock_ms(CLOCK_PROCESS_CPUTIME_ID);
+    printf("time %s %.6f %.6f\n", name, wall - from.wall, processor - from.processor);
+}
+
 static inline void print_number(const char *name, uint64_t n) { printf("number %s %" PRIu64 "\n", name, n); }
 
 /* One step of the sum that each reader takes while the clock runs. */

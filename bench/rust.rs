@@ -57,8 +57,37 @@ fn leaf_values(grid: &Grid<f32>) -> (u64, u64) {
     (leaves, total)
 }
 
-fn print_time(name: &str, from: Instant) {
-    println!("time {name} {:.6}", from.elapsed().as_secs_f64() * 1e3);
+/// The clock on the wall and the process's own processor time.
+struct Moment {
+    processor: f64,
+    wall: Instant,
+}
+
+#[repr(C)]
+struct Timespec {
+    seconds: i64,
+    nanoseconds: i64,
+}
+
+extern "C" {
+    fn clock_gettime(clock: i32, time: *mut Timespec) -> i32;
+}
+
+fn processor_ms() -> f64 {
+    const CLOCK_PROCESS_CPUTIME_ID: i32 = 2;
+    let mut t = Timespec { seconds: 0, nanoseconds: 0 };
+    unsafe { clock_gettime(CLOCK_PROCESS_CPUTIME_ID, &mut t) };
+    t.seconds as f64 * 1e3 + t.nanoseconds as f64 / 1e6
+}
+
+fn start() -> Moment {
+    let processor = processor_ms();
+    Moment { processor, wall: Instant::now() }
+}
+
+fn print_time(name: &str, from: Moment) {
+    let (wall, processor) = (from.wall.elapsed(), processor_ms() - from.processor);
+    println!("time {name} {:.6} {processor:.6}", wall.as_secs_f64() * 1e3);
 }
 
 fn main() {
@@ -73,13 +102,13 @@ fn main() {
     drop(grid);
 
     for _ in 0..repetitions {
-        let from = Instant::now();
+        let from = start();
         let grid = black_box(read(black_box(&bytes)));
         print_time("rust_read", from);
-        let from = Instant::now();
+        let from = start();
         println!("number sum {}", sum(&grid, plain));
         print_time("rust_iterate", from);
-        let from = Instant::now();
+        let from = start();
         println!("number leaf_sum {}", leaf_values(&grid).1);
         print_time("rust_leaf_values", from);
     }
