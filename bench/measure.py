@@ -16,7 +16,7 @@ import time
 import tables
 
 # Rounds, and repetitions a round, for each size in megabytes. In a round each program runs once, one after the other.
-ROUNDS = {1: (7, 9), 10: (5, 5), 100: (3, 2)}
+ROUNDS = {1: (7, 9), 10: (5, 5), 100: (4, 2)}
 
 
 def lines_of(command):

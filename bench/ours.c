@@ -1,5 +1,5 @@
 /*
- * Measures libvdb.a, and beside it what bounds it: a memcpy of the file, and a plain loop that writes the same records.
+ * Measures libvdb.a, and beside it two yardsticks: a memcpy of the file, and a plain loop that writes the same records.
  *
  *     ours FILE REPETITIONS    each repetition does everything in turn; the first one is not timed and prints counts and sums
  *     ours FILE once           opens and walks once, with 4,096 slots, for a tool that counts instructions

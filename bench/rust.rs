@@ -51,7 +51,11 @@ fn leaf_values(grid: &Grid<f32>) -> (u64, u64) {
     for node in grid.tree.root_nodes.iter().flat_map(|r| r.nodes.values()) {
         for leaf in node.nodes.values() {
             leaves += 1;
-            total += leaf.buffer.iter().map(|v| u64::from(v.to_bits())).sum::<u64>();
+            total += leaf
+                .buffer
+                .iter()
+                .map(|v| u64::from(v.to_bits()))
+                .sum::<u64>();
         }
     }
     (leaves, total)
@@ -75,14 +79,20 @@ extern "C" {
 
 fn processor_ms() -> f64 {
     const CLOCK_PROCESS_CPUTIME_ID: i32 = 2;
-    let mut t = Timespec { seconds: 0, nanoseconds: 0 };
+    let mut t = Timespec {
+        seconds: 0,
+        nanoseconds: 0,
+    };
     unsafe { clock_gettime(CLOCK_PROCESS_CPUTIME_ID, &mut t) };
     t.seconds as f64 * 1e3 + t.nanoseconds as f64 / 1e6
 }
 
 fn start() -> Moment {
     let processor = processor_ms();
-    Moment { processor, wall: Instant::now() }
+    Moment {
+        processor,
+        wall: Instant::now(),
+    }
 }
 
 fn print_time(name: &str, from: Moment) {

@@ -130,6 +130,9 @@ def targets(f):
     def row(name, limit, figure, least=False):
         return [name, ('at least ' if least else 'at most ') + shown(limit)] + [verdict(figure(c), limit, least) for c in large]
 
+    def bare(name, figure):
+        return [name, ''] + [shown(figure(c)) for c in large]
+
     def opened(c):
         return f.ms(c, 'open') / f.ms(c, 'memcpy')
 
@@ -139,6 +142,8 @@ def targets(f):
         first,
         row('OpenVDB / ours, both with the file read', 20, lambda c: over(f.openvdb(c), f.ms(c, 'whole_read')), True),
         row('Rust / ours, both from memory', 20, lambda c: over(f.rust(c), f.ms(c, 'whole')), True),
+        bare('for comparison: OpenVDB / the plain loop alone', lambda c: over(f.openvdb(c), f.ms(c, 'loop_4096'))),
+        bare('for comparison: Rust / the plain loop alone', lambda c: over(f.rust(c), f.ms(c, 'loop_4096'))),
         row('a record / the plain loop, 4,096 slots', 3, lambda c: f.ms(c, 'walk_4096') / f.ms(c, 'loop_4096')),
         row('a record / the plain loop, all slots', 3, lambda c: f.ms(c, 'walk_all') / f.ms(c, 'loop_all')),
         row('opening: a byte at 100 MB / at 10 MB', 1.2, lambda c: f.growth(c, 'open')),
