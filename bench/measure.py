@@ -91,6 +91,19 @@ def sizes(build):
     return found
 
 
+def calls(build):
+    """Which functions of the library call which: what the compiler did not inline."""
+    found = collections.defaultdict(set)
+    for line in lines_of(['objdump', '-dr', '--no-show-raw-insn', build / 'libvdb.a']):
+        function = re.match(r'[0-9a-f]+ <(.+)>:$', line)
+        target = re.search(r'R_\S+\s+\.text\.([\w:]+)', line)
+        if function:
+            inside = function[1]
+        elif target:
+            found[inside].add(target[1])
+    return {name: sorted(found[name]) for name in sorted(found)}
+
+
 def stack(build, clouds):
     """The most that each function used over these clouds."""
     most = collections.Counter()
@@ -119,6 +132,7 @@ def run(build, short):
     figures['beside'] = max(0, processor_seconds() - busy - (own_seconds() - own)) / (time.monotonic() - start)
     small = [p for p in paths if '_1_' in p.stem]
     figures['sizes'] = sizes(build)
+    figures['calls'] = calls(build)
     figures['stack'] = stack(build, small)
     figures['instructions'] = [{
         'cloud': p.stem, 'walk': instructions(build, p, 'vdb_walk'), 'open': instructions(build, p, 'vdb_open_grid_numbered'),

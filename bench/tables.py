@@ -169,6 +169,10 @@ def counted(figures):
     return ['Instructions', 'opening, a leaf', 'walking with 4,096 slots, a record'], rows
 
 
+def left(figures):
+    return ['Function', 'calls'], [[name, ', '.join(targets)] for name, targets in figures['calls'].items()]
+
+
 def agreement(figures):
     """Whether all readers read the same. OpenVDB's sum over leaf values is another one where inactive places have another background than zero."""
     lines = [f'DISAGREEMENT over {name_of((c["kind"], c["width"], int(c["size"])))}: {line}' for c in figures['clouds'] for line in c['disagreements']]
@@ -207,3 +211,4 @@ def show(figures, markdown, processor):
     part('Growth with the size of the file', growing(medians))
     part('Size of the library, stack', costs(figures))
     part('Instructions', counted(figures))
+    part('Calls that the compiler left in the library', left(figures))
