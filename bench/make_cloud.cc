@@ -1,6 +1,6 @@
 // Writes one cloud with OpenVDB, of about a given size, named `density`, values stored unpacked, of active places only (flags 2).
 //
-//     make_cloud fog|levelset MEGABYTES 4|2 FILE     the last number but FILE is the bytes of a stored value: float or half
+//     make_cloud fog|levelset MEGABYTES 4|2 FILE     4 stores floats, 2 halves
 //
 // A fog is a noise whose active voxels are some 60 in 100, and a solid cube beside it, which gives records of levels 1 and 2. A level set is the narrow
 // band of a sphere. The length of the edge, or the radius, is corrected until the file has its size to 3 parts in 100.
