@@ -56,6 +56,9 @@ def measure(path, programs):
         print(f'bench: {path.name}, round {number + 1} of {rounds}', file=sys.stderr)
         for program in programs:
             cloud.take(program.name, lines_of([program, path, str(repetitions)]))
+    # Inactive places of a level set hold a background in OpenVDB that document 01 does not have.
+    if cloud.kind == 'fog' and cloud.numbers['openvdb_leaf_sum'] != cloud.numbers['leaf_sum']:
+        cloud.disagreements.append('openvdb: another sum over the leaf values')
     return vars(cloud)
 
 
@@ -121,6 +124,10 @@ def instructions(build, cloud, function):
     return int(re.search(r'Collected : (\d+)', said)[1])
 
 
+def counts(build, cloud):
+    return {'cloud': cloud.stem, 'walk': instructions(build, cloud, 'vdb_walk'), 'open': instructions(build, cloud, 'vdb_open_grid_numbered')}
+
+
 def run(build, short):
     programs = [build / name for name in ('ours', 'openvdb', 'rust') if (build / name).exists()]
     paths = sorted((build / 'clouds').glob('*.vdb'), key=parts_of)
@@ -134,9 +141,7 @@ def run(build, short):
     figures['sizes'] = sizes(build)
     figures['calls'] = calls(build)
     figures['stack'] = stack(build, small)
-    figures['instructions'] = [{
-        'cloud': p.stem, 'walk': instructions(build, p, 'vdb_walk'), 'open': instructions(build, p, 'vdb_open_grid_numbered'),
-    } for p in small]
+    figures['instructions'] = [counts(build, p) for p in paths if '_10_' in p.stem]
     return figures
 
 

