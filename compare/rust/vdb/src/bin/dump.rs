@@ -5,6 +5,7 @@
 //!     --file     reads from the file itself; otherwise from its bytes in memory
 //!     --at N     hands the reader over at position N
 //!     --f16      asks for grids of halves in place of floats
+//!     --skip N   leaves out the first N grids
 //!     --calls    prints also what the reader's other calls give
 //!     dump --halves
 //!                each half and what the half crate widens it to: by its function, then by its
@@ -34,6 +35,7 @@ struct Options {
     file: bool,
     at: u64,
     f16: bool,
+    skip: usize,
     calls: bool,
     path: String,
 }
@@ -332,7 +334,7 @@ fn print_file<R: Read + Seek>(out: &mut Out, source: R, options: &Options) -> Do
             reader.read_grid::<f32>(&absent).map(|_| ())
         })?;
     }
-    for name in names {
+    for name in names.into_iter().skip(options.skip) {
         let gd = &reader.grid_descriptors[&name];
         print_descriptor(out, gd)?;
         if options.calls {
@@ -373,6 +375,7 @@ fn main() -> Done {
             "--file" => options.file = true,
             "--at" => options.at = words.next().and_then(|n| n.parse().ok()).unwrap_or(0),
             "--f16" => options.f16 = true,
+            "--skip" => options.skip = words.next().and_then(|n| n.parse().ok()).unwrap_or(0),
             "--calls" => options.calls = true,
             "--halves" => halves = true,
             _ => options.path = word,
