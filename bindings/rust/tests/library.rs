@@ -74,7 +74,7 @@ fn records_are_those_of_openvdb() {
         }
         accepted += 1;
     }
-    assert_eq!(accepted, 20);
+    assert_eq!(accepted, 24);
 }
 
 #[test]
