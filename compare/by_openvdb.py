@@ -18,10 +18,10 @@ def described(describe, path, *words):
     return done.stdout.decode('latin-1').splitlines()
 
 
-def leaves(describe, path, side):
+def leaves(lines):
     """For each grid's number its leaves: origin and values."""
     found, grid = {}, None
-    for line in described(describe, path, 'values', side):
+    for line in lines:
         words = line.split()
         if words[0] == 'grid':
             grid = found.setdefault(int(words[1]), [])
@@ -84,19 +84,24 @@ def rewritten(lines, filled, values, more):
     yield from (line for _, line in sorted(entries))
 
 
-def main(arguments):
-    values, more = '--values' in arguments, '--more' in arguments
-    side = 'document' if '--document' in arguments else 'openvdb'
-    describe, path = [word for word in arguments if not word.startswith('--')]
+def text(lines, filled, values=False, more=False):
+    """The text, from what DESCRIBE prints of a file and of its leaves."""
     parts = [[]]
-    for line in described(describe, path):
+    for line in lines:
         if line.startswith('grid '):
             parts.append([])
         parts[-1].append(line)
-    filled = leaves(describe, path, side)
-    head, *grids = ['\n'.join(rewritten(part, filled.get(number - 1, []), values, more)) for number, part in enumerate(parts)]
+    found = leaves(filled)
+    head, *grids = ['\n'.join(rewritten(part, found.get(number - 1, []), values, more)) for number, part in enumerate(parts)]
     grids.sort(key=lambda text: plain(text.splitlines()[0].partition(' ')[2]))
-    print('\n'.join([head, *grids]))
+    return '\n'.join([head, *grids]) + '\n'
+
+
+def main(arguments):
+    side = 'document' if '--document' in arguments else 'openvdb'
+    describe, path = [word for word in arguments if not word.startswith('--')]
+    sys.stdout.write(text(described(describe, path), described(describe, path, 'values', side),
+                          '--values' in arguments, '--more' in arguments))
 
 
 if __name__ == '__main__':

@@ -3,10 +3,13 @@
 
     canonical.py ONE OTHER      prints what two texts tell differently; exit status 1 if there is such a thing
 """
+import hashlib
 import re
 import struct
 import sys
 
+# A grid with more records has a digest in place of them in a shortened text.
+RECORDS = 1000
 MAPS = {'UniformScaleMap': 'UniformScaleMap', 'ScaleMap': 'UniformScaleMap',
         'UniformScaleTranslateMap': 'ScaleTranslateMap', 'ScaleTranslateMap': 'ScaleTranslateMap'}
 NO_ANSWER = 'error:', 'panic:', 'abort', 'refused'
@@ -48,6 +51,14 @@ def without_origins(text):
     return re.sub(r'^leaf (\d+) \S+ \S+ \S+', r'leaf \1 - - -', text, flags=re.MULTILINE)
 
 
+def shortened(text):
+    """The text with one line `digest` in place of the records of a grid with many: SHA-256 over the lines' ends, from BX on."""
+    def digested(match):
+        ends = [line.split(' ', 4)[4] + '\n' for line in match[2].splitlines()]
+        return match[1] + ('digest %s\n' % hashlib.sha256(''.join(ends).encode()).hexdigest() if len(ends) > RECORDS else match[2])
+    return re.sub(r'^(records \d+\n)((?:record .*\n)*)', digested, text, flags=re.MULTILINE)
+
+
 def items(text):
     """From the name of each thing that the text tells to what it tells. A name begins with its grid,
     or with None."""
@@ -75,7 +86,7 @@ def items(text):
 KINDS = {'version': 'header', 'library': 'header', 'identity': 'header', 'grids': 'header',
          'entries': 'metadata', 'entry': 'metadata', 'map': 'transform', 'vector': 'transform', 'background': 'transform',
          'leaves': 'leaves', 'leaf': 'leaves', 'values': 'leaves',
-         'records': 'active items', 'record': 'active items'}
+         'records': 'active items', 'record': 'active items', 'digest': 'active items'}
 
 
 def kind(name):
@@ -106,6 +117,16 @@ def differences(one, other):
         if pair[0] != pair[1]:
             found.append((name, *pair))
     return counts, found
+
+
+def first_difference(one, other):
+    """The first line that is otherwise."""
+    one, other = one.splitlines(), other.splitlines()
+    for number in range(max(len(one), len(other))):
+        pair = [text[number] if number < len(text) else 'nothing' for text in (one, other)]
+        if pair[0] != pair[1]:
+            return 'line %d: %s | %s' % (number + 1, *pair)
+    return None
 
 
 def main(one, other):

@@ -43,16 +43,6 @@ def openvdb_text(describe, path, *side):
     return printed(sys.executable, os.path.join(ABOVE, 'by_openvdb.py'), describe, path, '--more', *side)
 
 
-def first_difference(one, other):
-    """The first line that is otherwise."""
-    one, other = one.splitlines(), other.splitlines()
-    for number in range(max(len(one), len(other))):
-        pair = [text[number] if number < len(text) else 'nothing' for text in (one, other)]
-        if pair[0] != pair[1]:
-            return 'line %d: %s | %s' % (number + 1, *pair)
-    return None
-
-
 class Counts:
     """How many things of each kind were compared, and which refusals were met."""
 
@@ -91,7 +81,7 @@ def exactly(dump, paths, other, counts):
         counts.add(text, kinds(text))
         if text != theirs:
             counts.strange += 1
-            print('%s: ours | other: %s' % (os.path.basename(path), first_difference(text, theirs)))
+            print('%s: ours | other: %s' % (os.path.basename(path), canonical.first_difference(text, theirs)))
 
 
 def apart_from_listed(dump, rust, paths, counts):

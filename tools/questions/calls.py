@@ -96,30 +96,32 @@ def named(name):
 
 
 class Questions(Program):
-    def header(self):
-        self.ask('header', answered(lambda: header(File(self.file()))))
+    """Each question is answered by the reader of document.py; `other` is what another reader says, which must be the same."""
 
-    def descriptor(self, asked):
-        self.ask(asked_for('descriptor', asked), answered(lambda: descriptor(File(self.file()).grid(asked))))
+    def header(self, other=None):
+        self.ask('header', answered(lambda: header(File(self.file()))), other)
 
-    def entry(self, name):
-        self.ask('entry: ' + named(name), answered(lambda: value(document.entry(File(self.file()).entries, name))))
+    def descriptor(self, asked, other=None):
+        self.ask(asked_for('descriptor', asked), answered(lambda: descriptor(File(self.file()).grid(asked))), other)
 
-    def metadata(self, asked, name):
+    def entry(self, name, other=None):
+        self.ask('entry: ' + named(name), answered(lambda: value(document.entry(File(self.file()).entries, name))), other)
+
+    def metadata(self, asked, name, other=None):
         line = 'metadata %d: %s' % (asked, named(name)) if isinstance(asked, int) \
             else 'metadata: %s, %s' % (named(asked), named(name))
-        self.ask(line, answered(lambda: value(document.entry(File(self.file()).grid(asked).entries, name))))
+        self.ask(line, answered(lambda: value(document.entry(File(self.file()).grid(asked).entries, name))), other)
 
-    def open(self, asked):
-        self.ask(asked_for('open', asked), answered(lambda: opened(Opened(self.file(), asked))))
+    def open(self, asked, other=None):
+        self.ask(asked_for('open', asked), answered(lambda: opened(Opened(self.file(), asked))), other)
 
-    def fill(self, asked, leaf, slots=512, word='fill'):
+    def fill(self, asked, leaf, slots=512, word='fill', other=None):
         answer, values = ' f', []
         try:
             values = Opened(self.file(), asked).fill(leaf, slots)
         except Refused as refused:
             answer = ' refused %d' % refused.args
-        self.ask(asked_for('%s %d %d' % (word, leaf, slots), asked), after_fill(answer, values, word == 'values'))
+        self.ask(asked_for('%s %d %d' % (word, leaf, slots), asked), after_fill(answer, values, word == 'values'), other)
 
     def values(self, asked, leaf, slots=512):
         self.fill(asked, leaf, slots, 'values')
@@ -136,12 +138,12 @@ class Questions(Program):
     def trims(self, start, end):
         self.row('trims', start, end, File)
 
-    def walk(self, asked, *portions):
+    def walk(self, asked, *portions, other=None):
         self.ask('Walk' + numbers(asked, *portions),
-                 answered(lambda: walked_whole(Opened(self.file(), asked).active(), portions)))
+                 answered(lambda: walked_whole(Opened(self.file(), asked).active(), portions)), other)
 
-    def list(self, asked):
-        self.ask('List %d' % asked, answered(lambda: listed(Opened(self.file(), asked).active())))
+    def list(self, asked, other=None):
+        self.ask('List %d' % asked, answered(lambda: listed(Opened(self.file(), asked).active())), other)
 
     def next(self, length, asked, start, slots, answer):
         self.ask('Next' + numbers(length, asked, start, slots), answer)

@@ -3,6 +3,9 @@
 
     make -C tools/openvdb                  # as its README.md says: the clouds, and what OpenVDB says of them
     python3 tools/questions/make.py
+
+Of the stored clouds three readers tell: OpenVDB, document.py, and the Rust by what is kept in compare/rust/answers. It ends with
+an error where one of them says otherwise and no row of docs/DIFFERENCES.md says so.
 """
 import os
 
@@ -14,15 +17,14 @@ import transforms
 import walks
 from calls import Questions
 
-TOOLS = os.path.dirname(os.path.dirname(os.path.abspath(__file__)))
-CRATES = os.path.join(os.path.dirname(TOOLS), 'crates')
+CRATES = os.path.join(os.path.dirname(os.path.abspath(__file__)), '..', '..', 'crates')
 
 q = Questions()
 archive.ask(q)
 grid.ask(q)
-openvdb.ask(q, os.path.join(TOOLS, 'openvdb', 'out'))
+openvdb.ask(q)
 transforms.ask(q)
-walks.ask(q, os.path.join(TOOLS, 'openvdb', 'out'))
+walks.ask(q)
 q.write(os.path.join(CRATES, 'questions'))
 
 q = Questions()

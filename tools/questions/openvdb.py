@@ -1,16 +1,14 @@
-"""Files that OpenVDB has written, and what its library says of them.
+"""The stored files, and what OpenVDB's library says of them.
 
-tools/openvdb makes the files and describes each of them, in NAME.txt and NAME.document, by a program against OpenVDB's own
-library (its README.md has the form of the lines). The answers here are those lines in another order; no .vdb file is read.
+tools/openvdb describes each of them, in NAME.txt and NAME.document, by a program against OpenVDB's own library (its README.md
+has the form of the lines). The answers here are those lines in another order; the reader of document.py must give the same.
 """
-import os
 import re
 
-from calls import after_fill, asked_for, named
+import readers
+from calls import after_fill
 from program import in_quotes
 
-FILES = ['fog_active', 'fog_plain', 'levelset_active', 'forms_active', 'roots_active', 'half_active', 'half_plain', 'edge',
-         'several', 'refused', 'no_grids', 'stream', 'old_220', 'old_221', 'old_222', 'old_223']
 # The files of which each leaf's values are shown one by one, and not by their sum alone.
 SHOWN = ['forms_active', 'half_active']
 ENTRY = re.compile(r'entry "((?:[^"\\]|\\.)*)" "((?:[^"\\]|\\.)*)" ?(.*)')
@@ -78,45 +76,30 @@ class Described:
             case, vectors, self.field('background'), self.field('roots'), self.field('records'))
 
 
-def described(out, name):
-    with open(os.path.join(out, name + '.txt')) as stream:
-        lines = stream.read().splitlines()
+def described(name):
+    lines = readers.printed(name, 'txt')
     starts = [i for i, line in enumerate(lines) if re.fullmatch(r'grid \d+', line)] + [len(lines)]
     return Described(lines[:starts[0]]), [Described(lines[a:b]) for a, b in zip(starts, starts[1:])]
 
 
-def leaves(out, name):
-    """The 512 patterns of each leaf, by the grid's number and the leaf's."""
-    found, grid = {}, None
-    with open(os.path.join(out, name + '.document')) as stream:
-        for words in map(str.split, stream):
-            if words[0] == 'grid':
-                grid = int(words[1])
-            elif words[0] == 'leaf':
-                values = found[grid, int(words[1])] = []
-            elif words[0] != 'refused':
-                values += [int(word, 16) for word in words]
-    return found
-
-
-def ask_entries(q, file, scopes):
-    """Each entry that is there, one that is not, and the empty name; `scopes` are the words before the name."""
-    for name in list(file.entries) + [b'absent', b'']:
-        for scope in scopes:
-            q.ask(scope + named(name), file.entries.get(name, ' refused 11'))
+def entries(described):
+    """Each entry that is there with its answer, one that is not, and the empty name."""
+    return [(name, described.entries.get(name, ' refused 11')) for name in list(described.entries) + [b'absent', b'']]
 
 
 def ask_leaf(q, asked, leaf, answer, values, word='fill'):
-    q.ask(asked_for('%s %d 512' % (word, leaf), asked), after_fill(answer, values, word == 'values'))
+    q.fill(asked, leaf, 512, word, after_fill(answer, values, word == 'values'))
 
 
 def ask_grid(q, number, grid, found, word):
     name = grid.name()
     for asked in (number, name):
-        q.ask(asked_for('descriptor', asked), grid.descriptor())
-    ask_entries(q, grid, ['metadata %d: ' % number, 'metadata: %s, ' % named(name)])
+        q.descriptor(asked, grid.descriptor())
+    for entry, answer in entries(grid):
+        for asked in (number, name):
+            q.metadata(asked, entry, answer)
     for asked in (number, name):
-        q.ask(asked_for('open', asked), grid.opened())
+        q.open(asked, grid.opened())
     count = len(found)
     for leaf in range(count):
         ask_leaf(q, number, leaf, ' f', found[leaf], word)
@@ -126,24 +109,28 @@ def ask_grid(q, number, grid, found, word):
         ask_leaf(q, name, count - 1, ' f', found[count - 1])
 
 
-def ask_file(q, out, name):
-    file, grids = described(out, name)
-    values = leaves(out, name)
-    q.comment('== ' + name)
-    q.load(name + '.vdb')
-    q.ask('header', file.header())
-    if file.refused:
-        return
-    ask_entries(q, file, ['entry: '])
+def ask_grids(q, grids, leaves, word):
     for number, grid in enumerate(grids):
-        found = [values[key] for key in sorted(values) if key[0] == number]
-        ask_grid(q, number, grid, found, 'values' if name in SHOWN else 'fill')
+        ask_grid(q, number, grid, leaves.get(number, []), word)
     for asked in (len(grids), b'absent'):
-        q.ask(asked_for('descriptor', asked), ' refused 11')
-        q.ask(asked_for('open', asked), ' refused 11')
+        q.descriptor(asked, ' refused 11')
+        q.open(asked, ' refused 11')
         ask_leaf(q, asked, 0, ' refused 11', [])
 
 
-def ask(q, out):
-    for name in FILES:
-        ask_file(q, out, name)
+def ask_file(q, name):
+    file, grids = described(name)
+    q.comment('== ' + name)
+    at, before = len(q.lines), q.agreed
+    q.load(name + '.vdb', readers.stored(name))
+    q.header(file.header())
+    if not file.refused:
+        for entry, answer in entries(file):
+            q.entry(entry, answer)
+        ask_grids(q, grids, readers.leaves(name), 'values' if name in SHOWN else 'fill')
+    q.comments(at, readers.lines(name, q.agreed - before))
+
+
+def ask(q):
+    for name in readers.FILES:
+        ask_file(q, name)

@@ -54,11 +54,18 @@ def changes(numbers, start, form):
     return words
 
 
+class Differ(Exception):
+    """Two readers say different things."""
+
+
 class Program:
     def __init__(self):
         self.lines, self.data, self.length, self.kept = [], bytearray(SIZE), 0, None
+        # how many answers two readers have given
+        self.agreed = 0
 
     def write(self, folder):
+        assert sum(len(line) + 1 for line, _ in self.lines) <= SIZE
         with open(os.path.join(folder, 'stdin'), 'w') as asked, open(os.path.join(folder, 'stdout'), 'w') as answered:
             for line, answer in self.lines:
                 asked.write(line + '\n')
@@ -68,13 +75,22 @@ class Program:
         assert '\n' not in line
         self.lines.append((line, ''))
 
-    def ask(self, line, answer):
-        """The question mark is for the eye: the program takes no notice of it."""
+    def ask(self, line, answer, other=None):
+        """The question mark is for the eye: the program takes no notice of it. Another reader's answer must be the same."""
         assert '\n' not in line + answer
+        if other is not None:
+            self.agreed += 1
+            if other != answer:
+                raise Differ('%s?\n%s\n%s' % (line, answer, other))
         self.lines.append((line + '?', answer))
 
     def comment(self, text):
         self.say('# ' + text)
+
+    def comments(self, at, texts):
+        """Puts comments before the line of a number."""
+        assert not any('\n' in text for text in texts)
+        self.lines[at:at] = [('# ' + text, '') for text in texts]
 
     def file(self):
         assert self.length <= NAMES
@@ -107,14 +123,14 @@ class Program:
         self.say('random %d %d %d' % (at, count, seed))
         self.data[at:at + count] = noise(count, seed)
 
-    def load(self, name):
-        """What stands in a file of data/ is not known here."""
+    def load(self, name, data):
+        """A file of data/, and the bytes that stand in it."""
         self.say('load: "%s"' % name)
-        self.data = self.length = None
+        self.data, self.length = data, len(data)
 
     def keep(self):
         self.say('keep')
-        self.kept = self.data and bytes(self.data), self.length
+        self.kept = bytes(self.data), self.length
 
     def again(self):
         self.data, self.length = bytearray(self.kept[0]), self.kept[1]

@@ -18,13 +18,12 @@ Each number can be wrong. A fault in crates/walk/src/lib.rt, and what it changes
     no record in place of 22                          Past: the second
     23 for a place with a word that is all ones       Foreign with 2 ** 64 - 1: the second is 0, so that each of the 32 words was set
 """
-import os
-
 import grid
+import readers
 from archive import LENGTH
-from calls import listed, numbers, walked, walked_whole
+from calls import listed, walked, walked_whole
 from document import Opened
-from openvdb import FILES, described
+from openvdb import described
 
 PORTIONS = [(0,), (1,), (2,), (3,), (7,), (64,), (1000,), (0, 1), (0, 0, 2, 0, 3, 0), (7, 0, 64, 1, 1000, 3), (3, 2, 1, 0, 7),
             (1000, 0, 1)]
@@ -54,27 +53,30 @@ class Cloud:
         return sorted({0, 1, count // 3, min(count, 1000) - 1} & set(range(count)))
 
 
-def clouds(out):
+def clouds():
     """Each file's name and refusal, and of each grid the refusal or a Cloud."""
     files = []
-    for name in FILES:
-        file, grids = described(out, name)
-        with open(os.path.join(out, name + '.vdb'), 'rb') as stream:
-            data = stream.read()
+    for name in readers.FILES:
+        file, grids = described(name)
+        data = readers.stored(name)
         files.append((name, file.refused, [found.refused or Cloud(name, data, number, found) for number, found in enumerate(grids)]))
     return files
+
+
+def load(q, name):
+    q.load(name + '.vdb', readers.stored(name))
 
 
 # Walks over the bytes that the grid was opened from
 
 def ask_whole(q, number, cloud):
     if isinstance(cloud, str):
-        q.ask('Walk %d 1' % number, cloud)
+        q.walk(number, 1, other=cloud)
         return
     for portions in PORTIONS:
-        q.ask('Walk' + numbers(number, *portions), walked_whole(cloud.records, portions))
+        q.walk(number, *portions, other=walked_whole(cloud.records, portions))
     if len(cloud.records) <= SHOWN:
-        q.ask('List %d' % number, listed(cloud.records))
+        q.list(number, listed(cloud.records))
 
 
 def ask_next(q, cloud):
@@ -85,11 +87,11 @@ def ask_next(q, cloud):
 
 
 def ask_file(q, name, refused, found):
-    q.comment('== walks: ' + name)
-    q.load(name + '.vdb')
+    q.comment('== walks: %s, whose readers are told above' % name)
+    load(q, name)
     for number, cloud in enumerate(found):
         ask_whole(q, number, cloud)
-    q.ask('Walk %d 1' % len(found), refused or ' refused 11')
+    q.walk(len(found), 1, other=refused or ' refused 11')
     q.keep()
     for cloud in found:
         if isinstance(cloud, Cloud):
@@ -128,12 +130,12 @@ def try_nothing(q, cloud):
 def try_places(q, cloud):
     """A cloud's places, with words set, over the file cut, over the other files, over no bytes and over noise."""
     q.comment('== places: %s, grid %d' % (cloud.name, cloud.number))
-    q.load(cloud.name + '.vdb')
+    load(q, cloud.name)
     q.keep()
     try_words(q, cloud)
     try_cuts(q, cloud)
-    for name in [other for other in FILES if other != cloud.name]:
-        q.load(name + '.vdb')
+    for name in [other for other in readers.FILES if other != cloud.name]:
+        load(q, name)
         q.tried('Foreign', cloud.length, cloud.number, len(cloud.records) // 3, 7)
     q.new(0)
     try_nothing(q, cloud)
@@ -173,9 +175,9 @@ def ask_case_a(q):
             q.tried('Foreign', LENGTH, 0, 0, slots, value)
 
 
-def ask(q, out):
+def ask(q):
     ask_case_a(q)
-    files = clouds(out)
+    files = clouds()
     for file in files:
         ask_file(q, *file)
     for _, _, found in files:
