@@ -1,9 +1,9 @@
-"""Questions to the ten calls, with the answers of the reader in document.py."""
+"""Questions to the twelve calls, with the answers of the reader in document.py."""
 import document
 from document import File, Opened, Refused
 from program import Program, changes, in_quotes, spelt, summed
 
-SLOTS = 600
+SLOTS = 1600
 # The number of words of a walk's place, each of which is set in turn.
 WORDS = 32
 
@@ -58,7 +58,7 @@ def shown_map(found):
 
 
 def opened(grid):
-    return shown_map(grid.map) + ' %08x %d %d' % (grid.background, grid.roots, grid.records)
+    return shown_map(grid.map) + ' %08x %d %d %d' % (grid.background, grid.roots, len(grid.leaves), grid.records)
 
 
 def after_fill(answer, values, whole):
@@ -118,7 +118,8 @@ class Questions(Program):
     def fill(self, asked, leaf, slots=512, word='fill', other=None):
         answer, values = ' f', []
         try:
-            values = Opened(self.file(), asked).fill(leaf, slots)
+            grid = Opened(self.file(), asked)
+            values = grid.joined(leaf, slots) if word == 'joined' else grid.fill(leaf, slots)
         except Refused as refused:
             answer = ' refused %d' % refused.args
         self.ask(asked_for('%s %d %d' % (word, leaf, slots), asked), after_fill(answer, values, word == 'values'), other)

@@ -275,6 +275,12 @@ class Opened:
         check(leaf < len(self.leaves) and slots == 512, 21)
         return [self.leaves[leaf].at(place) for place in range(512)]
 
+    def joined(self, first, slots):
+        """The same for the leaves from a number on: as many as the slots are for, all of which must be there."""
+        count = slots // 512
+        check(slots % 512 == 0 and count <= max(len(self.leaves) - first, 0), 21)
+        return [leaf.at(place) for leaf in self.leaves[first:first + count] for place in range(512)]
+
     def active(self):
         """The active list."""
         found, blocks = [], iter(self.leaves)

@@ -162,6 +162,10 @@ def fills(q):
     for leaf, slots in ((1, 512), (2 ** 64 - 1, 512), (0, 511), (0, 513), (0, 0), (0, 600), (1, 511)):
         q.values(b'd', leaf, slots)
         q.values(0, leaf, slots)
+    q.comment('runs of leaves: none, one, more than there are, slots that are not for whole leaves')
+    for first, slots in ((0, 0), (1, 0), (2 ** 64 - 1, 0), (0, 512), (0, 511), (0, 513), (0, 1024), (1, 512), (2 ** 64 - 1, 512)):
+        q.fill(b'd', first, slots, 'joined')
+        q.fill(0, first, slots, 'joined')
 
 
 def refused_fills(q):

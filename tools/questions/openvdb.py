@@ -72,8 +72,8 @@ class Described:
     def opened(self):
         case = 't' if 'Translate' in self.field('map') else 's'
         vectors = ''.join(line[len('vector'):] for line in self.lines if line.startswith('vector '))
-        return self.refused or ' %s%s %s %s %s' % (
-            case, vectors, self.field('background'), self.field('roots'), self.field('records'))
+        return self.refused or ' %s%s %s %s %s %s' % (
+            case, vectors, *map(self.field, ('background', 'roots', 'leaves', 'records')))
 
 
 def described(name):
@@ -87,8 +87,17 @@ def entries(described):
     return [(name, described.entries.get(name, ' refused 11')) for name in list(described.entries) + [b'absent', b'']]
 
 
-def ask_leaf(q, asked, leaf, answer, values, word='fill'):
-    q.fill(asked, leaf, 512, word, after_fill(answer, values, word == 'values'))
+def ask_leaf(q, asked, leaf, answer, values, word='fill', count=1):
+    q.fill(asked, leaf, 512 * count, word, after_fill(answer, values, word == 'values'))
+
+
+def ask_joined(q, number, name, found, refused):
+    """Up to three leaves at once, from the first on, before the end, and past it."""
+    count = len(found)
+    for asked, first, leaves in ((number, 0, 0), (number, 0, min(count, 3)), (name, max(count - 2, 0), min(count, 2)), (name, count, 0)):
+        ask_leaf(q, asked, first, refused or ' f', sum(found[first:first + leaves], []), 'joined', leaves)
+    for asked in (number, name):
+        ask_leaf(q, asked, max(count - 1, 0), refused or ' refused 21', [], 'joined', min(count, 1) + 1)
 
 
 def ask_grid(q, number, grid, found, word):
@@ -107,6 +116,7 @@ def ask_grid(q, number, grid, found, word):
         ask_leaf(q, asked, count, grid.refused or ' refused 21', [])
     if count:
         ask_leaf(q, name, count - 1, ' f', found[count - 1])
+    ask_joined(q, number, name, found, grid.refused)
 
 
 def ask_grids(q, grids, leaves, word):

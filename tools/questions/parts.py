@@ -1,4 +1,4 @@
-"""Questions to the layers below the ten calls: fields, masks, halves, stored values, coordinates."""
+"""Questions to the layers below the calls: fields, masks, halves, stored values, coordinates."""
 import struct
 
 from calls import double, numbers, span

@@ -1,4 +1,4 @@
-// The questions to the ten calls:
+// The questions to the twelve calls:
 //
 //     header                                                 the file
 //     descriptor N, descriptor: NAME                         the descriptor of a grid
@@ -7,6 +7,7 @@
 //     open N, open: NAME                                     a grid
 //     fill LEAF SLOTS N, fill LEAF SLOTS: NAME               a leaf's values, and their sum
 //     values LEAF SLOTS N, values LEAF SLOTS: NAME           the same, with the values themselves
+//     joined LEAF SLOTS N, joined LEAF SLOTS: NAME           the values of the leaves from this one on, and their sum
 //     cuts FROM TO, trims FROM TO                            the refusals of grid 0, or of the file, cut to each of these lengths
 //
 // and to the layer of the transforms, whose map is shown as that of a grid:
@@ -147,9 +148,10 @@ fn transform(s: &[u8], at: usize) {
     }
 }
 
-fn counts(background: u32, roots: u32, records: u64) {
+fn counts(background: u32, roots: u32, leaves: u64, records: u64) {
     show::pattern(background);
     show::small(roots);
+    show::number(leaves);
     show::number(records);
 }
 
@@ -160,7 +162,7 @@ fn open(a: grid::GridAnswer) {
             let m = g.transform;
             map(m);
             let p = g.place;
-            counts(g.background, p.root_count, g.active_count);
+            counts(g.background, p.root_count, g.leaf_count, g.active_count);
         }
     }
 }
@@ -187,7 +189,7 @@ fn filled(a: FillAnswer) {
     }
 }
 
-fn fill(
+fn fill_one(
     words: usize,
     s: &[u8],
     name: &[u8],
@@ -201,8 +203,23 @@ fn fill(
     grid::fill_leaf_named(s, name, leaf, slots)
 }
 
-// The leaf's values into the first `count` slots.
+fn fill_joined(
+    words: usize,
+    s: &[u8],
+    name: &[u8],
+    grid: u32,
+    first: u64,
+    slots: &mut [u32],
+) -> FillAnswer {
+    if words == 3 {
+        return leaves::fill_leaves_numbered(s, grid, first, slots);
+    }
+    leaves::fill_leaves_named(s, name, first, slots)
+}
+
+// The values into the first `count` slots.
 fn lend(
+    command: u8,
     words: usize,
     s: &[u8],
     name: &[u8],
@@ -214,17 +231,29 @@ fn lend(
     if slots.len() < count {
         return FillAnswer::Refused(0);
     }
-    fill(words, s, name, grid, leaf, &mut slots[0..count])
+    match command {
+        b'j' => fill_joined(words, s, name, grid, leaf, &mut slots[0..count]),
+        _ => fill_one(words, s, name, grid, leaf, &mut slots[0..count]),
+    }
 }
 
 fn ask_fill(command: u8, words: usize, s: &[u8], name: &[u8], n: &[u64; 8]) {
-    let mut slots = [7u32; 600];
-    filled(lend(words, s, name, low(n[3]), n[1], &mut slots, n[2] as usize));
-    series::ask(command, s, &slots, 0, 600);
+    let mut slots = [7u32; 1600];
+    filled(lend(
+        command,
+        words,
+        s,
+        name,
+        low(n[3]),
+        n[1],
+        &mut slots,
+        n[2] as usize,
+    ));
+    series::ask(command, s, &slots, 0, 1600);
 }
 
 fn ask_row(command: u8, s: &[u8], n: &[u64; 8]) {
-    let slots = [0u32; 600];
+    let slots = [0u32; 1600];
     series::ask(command, s, &slots, n[1] as usize, n[2] as usize);
 }
 
@@ -290,7 +319,7 @@ fn ask_command(command: u8, words: usize, s: &[u8], grid: &[u8], name: &[u8], n:
         b'h' => header(s),
         b'e' => file_entry(s, name),
         b'd' | b'm' | b'o' => ask_grid(command, words, s, low(n[1]), grid, name),
-        b'f' | b'v' => ask_fill(command, words, s, name, n),
+        b'f' | b'v' | b'j' => ask_fill(command, words, s, name, n),
         b'c' | b't' => ask_row(command, s, n),
         b'T' => transform(s, n[1] as usize),
         _ => {}

@@ -23,16 +23,16 @@ fn wide(x: u32) -> u64 {
 }
 
 // The number at place i of the row that a command asks for.
-fn item(command: u8, s: &[u8], slots: &[u32; 600], i: usize) -> u64 {
+fn item(command: u8, s: &[u8], slots: &[u32; 1600], i: usize) -> u64 {
     match command {
         b'c' => calls::grid_cut(s, i),
         b't' => calls::file_cut(s, i),
-        _ => wide(slots[i % 600]),
+        _ => wide(slots[i % 1600]),
     }
 }
 
 // The places from `from` to the one before `to`.
-pub fn ask(command: u8, s: &[u8], slots: &[u32; 600], from: usize, to: usize) {
+pub fn ask(command: u8, s: &[u8], slots: &[u32; 1600], from: usize, to: usize) {
     let mut last = 18446744073709551615;
     let mut sum = 0;
     for i in from..to {
