@@ -6,16 +6,13 @@
 // identity bytes for each file; they are set to a fixed text afterwards (set_identity), so that
 // two runs give equal files. No other byte is touched.
 
-#include <openvdb/openvdb.h>
+#include "archive.h"
+
 #include <openvdb/io/Stream.h>
 #include <openvdb/tools/LevelSetSphere.h>
 
 #include <cmath>
-#include <cstring>
-#include <fstream>
 #include <iostream>
-#include <string>
-#include <vector>
 
 namespace {
 
@@ -28,33 +25,15 @@ using Leaf = FloatTree::LeafNodeType;                 // 8^3 voxels
 using Node5 = FloatTree::RootNodeType::ChildNodeType; // 32^3 places
 using Node4 = Node5::ChildNodeType;                   // 16^3 places
 
-const uint32_t PLAIN = openvdb::io::COMPRESS_NONE;         // flags 0
-const uint32_t ACTIVE = openvdb::io::COMPRESS_ACTIVE_MASK; // flags 2
-
 std::string directory;
 
 std::string path_of(const std::string& name) { return directory + "/" + name; }
-
-float pattern(uint32_t bits) {
-    float value;
-    std::memcpy(&value, &bits, sizeof value);
-    return value;
-}
 
 // The float whose half is the given pattern.
 float half(uint16_t bits) {
     openvdb::math::half value;
     value.setBits(bits);
     return float(value);
-}
-
-// The identity is at byte 21: after magic (8), version (4), library (8) and the offsets byte (1).
-void set_identity(const std::string& path, int number) {
-    char text[64];
-    std::snprintf(text, sizeof text, "c10ad000-0000-4000-8000-%012d", number);
-    std::fstream file(path, std::ios::in | std::ios::out | std::ios::binary);
-    file.seekp(21);
-    file.write(text, 36);
 }
 
 void write(const std::string& name, int number, uint32_t flags,
@@ -67,41 +46,6 @@ void write(const std::string& name, int number, uint32_t flags,
     }
     set_identity(path_of(name), number);
 }
-
-// io::File gives all grids of a file the same flags. This archive makes the library's own calls for
-// a header and for each grid, but sets the flags, the name and the parent before each grid.
-class MixedArchive : public openvdb::io::Archive {
-public:
-    struct Part {
-        GridBase::Ptr grid;
-        uint32_t flags;
-        std::string name; // the descriptor's name
-        std::string parent; // empty, or the descriptor's name whose tree is shared
-    };
-    void save(const std::string& path, const std::vector<Part>& parts,
-              const openvdb::MetaMap& meta) {
-        std::ofstream os(path, std::ios::binary);
-        this->writeHeader(os, /*seekable=*/true);
-        meta.writeMeta(os);
-        const int32_t count = int32_t(parts.size());
-        os.write(reinterpret_cast<const char*>(&count), sizeof count);
-        for (const Part& part : parts) {
-            this->setCompression(part.flags);
-            part.grid->addStatsMetadata();
-            part.grid->insertMeta(
-                GridBase::META_FILE_COMPRESSION,
-                openvdb::StringMetadata(openvdb::io::compressionToString(part.flags)));
-            openvdb::io::GridDescriptor gd(part.name, part.grid->type(),
-                                           part.grid->saveFloatAsHalf());
-            if (part.parent.empty()) {
-                this->writeGrid(gd, part.grid, os, /*seekable=*/true);
-            } else {
-                gd.setInstanceParentName(part.parent);
-                this->writeGridInstance(gd, part.grid, os, /*seekable=*/true);
-            }
-        }
-    }
-};
 
 FloatGrid::Ptr cloud(const std::string& name, float background, openvdb::GridClass kind) {
     FloatGrid::Ptr grid = FloatGrid::create(background);
