@@ -4,11 +4,14 @@
     compare.py DUMP document FILE ..               with document 01, by the Python reader: every line must be equal
     compare.py DUMP openvdb DESCRIBE FILE ..       with OpenVDB's library: every line must be equal
     compare.py DUMP rust RUST FILE ..              with the Rust: apart from the differences that rust/listed.py knows
+    compare.py DUMP streams RUST FILE ..           with the Rust, line by line as they come: every line must be equal
 
 DUMP, DESCRIBE and RUST are the three programs. The walk gets an odd number of slots. With OpenVDB, inactive places that
 hold no value read are zero, as in document 01; the leaves that differ from what OpenVDB itself has there, the background,
 are counted. Prints what is otherwise and what was compared; exits with 1 if anything is on no list.
 """
+import collections
+import itertools
 import os
 import re
 import subprocess
@@ -49,10 +52,13 @@ class Counts:
     def __init__(self):
         self.kinds, self.refused, self.strange, self.rows, self.files = {}, {}, 0, {}, 0
 
-    def add(self, text, compared):
-        self.files += 1
+    def add_kinds(self, compared):
         for kind, count in compared.items():
             self.kinds[kind] = self.kinds.get(kind, 0) + count
+
+    def add(self, text, compared):
+        self.files += 1
+        self.add_kinds(compared)
         for number in re.findall(r'^refused (\d+)', text, flags=re.MULTILINE):
             self.refused[int(number)] = self.refused.get(int(number), 0) + 1
 
@@ -66,30 +72,44 @@ class Counts:
         return '\n'.join(lines + ['%d on no list' % self.strange])
 
 
-def kinds(text):
-    """How many lines of each kind there are."""
-    found = {}
-    for word in re.findall(r'^\w+', text, flags=re.MULTILINE):
+def kinds(words):
+    """How many lines of each kind there are, from how many there are with each first word."""
+    found = collections.Counter()
+    for word, count in words.items():
         if word not in ('file', 'refused'):
-            found[canonical.kind((None, word))] = found.get(canonical.kind((None, word)), 0) + 1
+            found[canonical.kind((None, word))] += count
     return found
+
+
+def first_words(text):
+    return collections.Counter(re.findall(r'^\w+', text, flags=re.MULTILINE))
 
 
 def exactly(dump, paths, other, counts):
     for path, text in zip(paths, ours(dump, paths, '--more'), strict=True):
         theirs = canonical.without_origins(other(path))
-        counts.add(text, kinds(text))
+        counts.add(text, kinds(first_words(text)))
         if text != theirs:
             counts.strange += 1
             print('%s: ours | other: %s' % (os.path.basename(path), canonical.first_difference(text, theirs)))
 
 
+def without_common(one, other):
+    """Both texts without the parts, header or whole grids, that are equal in both, and these: a large text is long in being
+    taken apart."""
+    parts = [re.split(r'^(?=grid )', text, flags=re.MULTILINE) for text in (one, other)]
+    common = set(parts[0]) & set(parts[1])
+    return *(''.join(part for part in side if part not in common) for side in parts), ''.join(common)
+
+
 def apart_from_listed(dump, rust, paths, counts):
     for path, text in zip(paths, ours(dump, paths), strict=True):
         theirs = canonical.without_origins(rows.dumped(rust, path, memory=12 << 30))
-        version = int(canonical.items(text).get((None, 'version'), 0))
-        compared, found = canonical.differences(theirs, text)
+        version = int((re.search(r'^version (\d+)', text, flags=re.MULTILINE) or [0, 0])[1])
+        *rest, common = without_common(theirs, text)
+        compared, found = canonical.differences(*rest)
         counts.add(text, compared)
+        counts.add_kinds(kinds(first_words(common)))
         for name, one, other in found:
             row = listed.row(name, one, other, version)
             if row:
@@ -97,6 +117,21 @@ def apart_from_listed(dump, rust, paths, counts):
             else:
                 counts.strange += 1
                 print('%s %s: Rust %s | ours %s' % (os.path.basename(path), ' '.join(map(str, name)), one, other))
+
+
+def line_by_line(dump, rust, paths, counts):
+    """For clouds whose texts are too large to be kept."""
+    for path in paths:
+        sides = [subprocess.Popen(words, stdout=subprocess.PIPE) for words in ([dump, '--slots', '77', path], [rust, path])]
+        words, difference = collections.Counter(), None
+        for pair in itertools.zip_longest(*(side.stdout for side in sides), fillvalue=b'nothing'):
+            words[pair[0].split(None, 1)[0].decode()] += 1
+            if pair[0] != pair[1] and difference is None:
+                difference = first_difference(*(canonical.without_origins(line.decode()) for line in pair))
+        counts.add('', kinds(words))
+        if difference or any(side.wait() for side in sides):
+            counts.strange += 1
+            print('%s: ours | Rust: %s' % (os.path.basename(path), difference or 'a dumper failed'))
 
 
 def with_background(dump, describe, paths):
@@ -119,7 +154,7 @@ def main(dump, other, *words):
         print('%d leaves equal by document 01 and not with the background in inactive places' % with_background(dump, describe, paths))
     else:
         rust, *paths = words
-        apart_from_listed(dump, rust, paths, counts)
+        (line_by_line if other == 'streams' else apart_from_listed)(dump, rust, paths, counts)
     print(counts.shown())
     return 1 if counts.strange else 0
 
