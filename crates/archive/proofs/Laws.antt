@@ -11,7 +11,7 @@ use lib.Seq.{slice, drop-cons, getD-take, take-suc-set}
 use Rattle.fields.specs.Parse.{Parse, got, fails, then, when, check}
 use Rattle.fields.specs.Fields.{bytesOf, sameBytes}
 use Rattle.fields.specs.declared.Span.{Span}
-use Rattle.fields.proofs.Laws.{then-got, then-fails, check-passes, check-fails, then-then, told}
+use Rattle.fields.proofs.Laws.{then-got, then-fails, check-passes, check-fails, then-then, check-then, told}
 use Rattle.metadata.specs.Metadata.{latest}
 use Rattle.archive.specs.Answer.{Answer, gives, refuses, answer, with, present}
 use Rattle.header.specs.Header.{header}
@@ -115,12 +115,6 @@ module _ (s : List ℕ) (ws : List Span) (w : Span) where
 
   pub check-new : {a : List ℕ} {t : Bool} {p x : Parse GridDescriptor} → t ≡ repeated s a ws → t ≡ false → a ≡ bytesOf s w → x ≡ p → x ≡ check (not (repeated s (bytesOf s w) ws)) 10 p
   check-new h e k j = check-passes 10 (rw (← k, ← h, e) refl) j
-
--- what follows a check is checked with it
-check-then : {A B : Type 0} (ok : Bool) (k : ℕ) (p : Parse A) (f : A → ℕ → Parse B) → then (check ok k p) f ≡ check ok k (then p f)
-unfolding then check
-check-then true k p f = refl
-check-then false k p f = refl
 
 -- The descriptors that are left, i of count being passed: one more is read, it is refused, or none is left.
 module _ (s : List ℕ) (h : ArchiveHeader) (asked : Asked) (name : List ℕ) (i : ℕ) (best : Option GridDescriptor) where

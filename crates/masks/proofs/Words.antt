@@ -3,15 +3,16 @@ use mathlib.Core.Path.{_≡_, refl, sym, ap, _∙_}
 use mathlib.Core.Bool.{Bool, true, false, not, _&&_, Bool·beq, true≢false}
 use mathlib.Core.Logic.{_↔_}
 use mathlib.Core.Option.{some}
-use mathlib.Core.List.{List, []}
+use mathlib.Core.List.{List, [], _∷_, _++_}
 use Prim.Native.Nat.{ℕ, _+_, _-_, _*_, _/_, _%_, _^_, _≤_, _<_}
 use native.Mathlib.Nat.{add-zero, zero-add, mod-eq-of-lt, lt-of-not-le, lt-of-le-of-lt, div-le-self}
 use native.Mathlib.Omega.{arith}
+use lib.Dec.{eqb}
 use lib.ListN.{length}
 use lib.Bits.{bitAnd, and-le-l}
 use lib.Count.{trailingZeros}
 use lib.Count
-use borrow.Author.Tests.{not-false}
+use borrow.Author.Tests.{not-false, eqb-true, eqb-false}
 use Rattle.fields.specs.Le.{byteAt, u64At}
 use Rattle.masks.specs.Masks.{digit, maskBit, onesFrom, ones, countBelow, isNil, agree, overlap}
 use Rattle.masks.specs.Inner.{nextOne, IsWord}
@@ -122,6 +123,14 @@ some-here f p k n l z = go (isNil (ones f n)) refl
     go true e = absurd (z (ones-nil f k p (λ q a b. none-below f n .0 e q (omega arith))))
     go false e = refl
 
+isNil-append : (l m : List ℕ) → isNil (l ++ m) ≡ isNil l && isNil m
+isNil-append [] m = refl
+isNil-append (p ∷ l) m = refl
+
+not-nil : (l : List ℕ) → (l ≡ [] → ⊥) → isNil l ≡ false
+not-nil [] z = absurd (z refl)
+not-nil (p ∷ l) z = refl
+
 -- The masks compared by one word more.
 module _ (f g : ℕ → Bool) (p w v : ℕ) (h : IsWord f p w) (k : IsWord g p v) where
   pub overlap-on : overlap f g p ≡ false → bitAnd w v ≡ 0 → overlap f g (p + 64) ≡ false
@@ -130,8 +139,9 @@ module _ (f g : ℕ → Bool) (p w v : ℕ) (h : IsWord f p w) (k : IsWord g p v
   pub overlap-here : (n : ℕ) → p + 64 ≤ n → (bitAnd w v ≡ 0 → ⊥) → overlap f g n ≡ true
   overlap-here n l z = ap not (some-here _ p 64 n l (λ e. z (words-apart f g p w v h k .1 e)))
 
-  pub agree-on : agree f g p ≡ true → w ≡ v → agree f g (p + 64) ≡ true
-  agree-on a e = nil-on _ p 64 a (words-same f g p w v h k .0 e)
-
-  pub differ-here : (n : ℕ) → p + 64 ≤ n → (w ≡ v → ⊥) → agree f g n ≡ false
-  differ-here n l z = some-here _ p 64 n l (λ e. z (words-same f g p w v h k .1 e))
+  pub agree-on : agree f g p && eqb w v ≡ agree f g (p + 64)
+  agree-on = rw (ones-append (λ q. not (Bool·beq (f q) (g q))) p 0 64, zero-add, isNil-append) (ap (λ t. agree f g p && t) (go (eqb w v) refl))
+    where
+      go : (t : Bool) → eqb w v ≡ t → t ≡ isNil (onesFrom (λ q. not (Bool·beq (f q) (g q))) p 64)
+      go true e = sym (ap isNil (words-same f g p w v h k .0 (eqb-true w v e)))
+      go false e = sym (not-nil _ (λ z. eqb-false w v e (words-same f g p w v h k .1 z)))

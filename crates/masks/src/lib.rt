@@ -141,17 +141,17 @@ pub fn masks_overlap(s: &[u8], a: usize, b: usize, n: usize) -> bool
     false
 }
 
-// Whether two masks are the same.
+// Whether two masks are the same. All words are compared, whatever the first ones say: with no way out of the loop the compiler compares several
+// words at once.
 pub fn masks_equal(s: &[u8], a: usize, b: usize, n: usize) -> bool
     requires { ⌜ IsMask (now s) a n × IsMask (now s) b n ⌝ }
     ensures { λ r. ⌜ r ≡ agree (maskBit (now (s .entry)) a) (maskBit (now (s .entry)) b) (8 * n) ⌝ }
 {
+    let mut same = true;
     let mut i: usize = 0;
     while i < n {
-        if word(s, a, n, i) != word(s, b, n, i) {
-            return false;
-        }
+        same = same & (word(s, a, n, i) == word(s, b, n, i));
         i = i + 8;
     }
-    true
+    same
 }

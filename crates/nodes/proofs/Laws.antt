@@ -1,5 +1,5 @@
 -- Laws of the definitions, by which the functions' proofs go.
-use mathlib.Core.Path.{_≡_, refl}
+use mathlib.Core.Path.{_≡_, refl, sym, ap}
 use mathlib.Core.List.{List}
 use mathlib.Core.Bool.{Bool, true, false}
 use Prim.Native.Nat.{ℕ, suc, _+_, _-_, _*_, _%_, _^_, _≤_, _<_}
@@ -11,10 +11,14 @@ use lib.Signed.{mag}
 use mir.Syntax.{w32}
 use mir.Val.{ofZ}
 use borrow.Author.Tests.{eq-eqb, ne-eqb, eqb-true, eqb-false, not-true}
-use Rattle.fields.proofs.Laws.{field-back, Always, then-always, check-always, got-always}
+use Rattle.fields.specs.Parse.{Parse, got, fails, then}
+use Rattle.fields.specs.declared.Span.{Span}
+use Rattle.fields.proofs.Laws.{through, check-then, field-back, Always, then-always, check-always, got-always}
 use Rattle.half.specs.Inner.{isWidth}
 use Rattle.masks.specs.Inner.{IsMask}
-use Rattle.masks.specs.Masks.{maskBit, overlap, agree}
+use Rattle.masks.specs.Masks.{maskBit, countBelow, overlap, agree}
+use Rattle.masks.proofs.Laws.{agree-ones}
+use Rattle.values.specs.Values.{valuesField}
 use Rattle.values.specs.declared.Coding.{Coding}
 use Rattle.values.specs.declared.Stored.the-variants.{Every as EveryPlace, Childless}
 use Rattle.values.specs.Inner.{Held}
@@ -22,6 +26,7 @@ use Rattle.values.proofs.Laws.{values-held}
 use Rattle.values.proofs.Agree.{values-ends}
 pub use Rattle.values.proofs.Laws.{whole-mask}
 use Rattle.nodes.specs.Nodes.{nodeField, sameInt, blockField}
+use Rattle.nodes.specs.Inner.{blockHead, endOf}
 use Rattle.nodes.specs.declared.NodeHeader.{NodeHeader}
 use Rattle.nodes.specs.declared.Leaf.{Leaf}
 use Rattle.nodes.specs.declared.Block.{Block}
@@ -62,6 +67,37 @@ node-back n s c at h k =
       after = omega (arith, field-back s at n _ e .2, field-back s p n _ f .2, d .0);
       inside = d .1;
     })
+
+-- A block is what stands before its values, and these; its mask stands at its start.
+pub block-parts :
+    (s : List ℕ) (c : Coding) (l : Leaf) (at : ℕ) →
+    blockField s c l at
+    ≡ then (blockHead s (c .version) l at) λ u p. then (valuesField s c EveryPlace 64 at at p) λ v q. got (record { origin = l .origin; mask = at; values = v }) q
+unfolding blockField blockHead
+block-parts s c l at = through _ _ _ _ λ w p e.
+    let f : w .start ≡ at = ap (λ (w : Span). w .start) (field-back s at 64 _ e .1) in
+    rw f (sym (check-then _ _ _ _))
+
+-- where what stands before them was read, the mask lies in the file and has the topology's ones
+pub head-back :
+    (s : List ℕ) (version : ℕ) (l : Leaf) (at : ℕ) →
+    Always (λ u p. IsMask s at 64 × (countBelow (maskBit s at) 512 ≡ countBelow (maskBit s (l .mask)) 512)) (blockHead s version l at)
+unfolding blockHead
+head-back s version l at = then-always _ _ _ λ w p e. check-always _ _ _ _ λ ok u q f.
+    let g : w .start ≡ at = ap (λ (w : Span). w .start) (field-back s at 64 _ e .1) in
+    (rw g at (whole-mask s at 64 refl (lit≤ tt) e), ap length (agree-ones _ _ 512 (rw g at ok)))
+
+-- the way back from a parse's end
+module _ {A : Type 0} where
+  pub end-back : (m : Parse A) {u : Unit} {n : ℕ} → got u n ≡ endOf m → (a : A) × (got a n ≡ m)
+  unfolding endOf then
+  end-back (got a p) {u} {n} e = let f : n ≡ p = cc in (a, ap (got a) f)
+  end-back (fails k) e = let z : _≡_ {A = ℕ} 0 1 = cc in absurd (omega arith)
+
+  pub end-fails : (m : Parse A) {k : ℕ} → fails k ≡ endOf m → fails k ≡ m
+  unfolding endOf then
+  end-fails (got a p) e = let z : _≡_ {A = ℕ} 0 1 = cc in absurd (omega arith)
+  end-fails (fails j) {k} e = let f : k ≡ j = cc in ap fails f
 
 -- a block that was read: its mask lies in the file and agrees with the topology's, it can be read from, and it ends in the file
 pub record BlockRead (s : List ℕ) (c : Coding) (l : Leaf) (b : Block) (e : ℕ) : Type 0 where

@@ -1,22 +1,39 @@
 -- Inner matter: only contracts of inner functions cite it, and nothing here has to be believed.
--- What each answer of the code says.
-use Rattle.fields.specs.Parse.{Parse, got, fails}
+use Prim.Native.Nat.{ℕ}
+use mathlib.Core.List.{List}
+use Rattle.fields.specs.Parse.{Parse, got, fails, then, check}
+use Rattle.fields.specs.Fields.{bytesField}
+use Rattle.masks.specs.Masks.{maskBit, agree}
+use Rattle.nodes.specs.Nodes.{oldField}
+use Rattle.nodes.specs.declared.Leaf.{Leaf}
 use Rattle.nodes.specs.declared.NodeHeader.{NodeHeader}
 use Rattle.nodes.specs.declared.Block.{Block}
 use Rattle.nodes.specs.declared.NodeField.{NodeField}
 use Rattle.nodes.specs.declared.NodeField.the-variants.{Got as GotNode, Refused as RefusedNode}
-use Rattle.nodes.specs.declared.OldField.{OldField}
-use Rattle.nodes.specs.declared.OldField.the-variants.{Got as GotOld, Refused as RefusedOld}
+use Rattle.nodes.specs.declared.EndField.{EndField}
+use Rattle.nodes.specs.declared.EndField.the-variants.{Got as GotEnd, Refused as RefusedEnd}
 use Rattle.nodes.specs.declared.BlockField.{BlockField}
 use Rattle.nodes.specs.declared.BlockField.the-variants.{Got as GotBlock, Refused as RefusedBlock}
 
+-- a leaf's block up to its values
+unfoldable pub blockHead : List ℕ → ℕ → Leaf → ℕ → Parse Unit
+blockHead s version leaf at =
+    then (bytesField s 64 at) λ mask p.
+    check (agree (maskBit s (mask .start)) (maskBit s (leaf .mask)) 512) 20
+    (oldField s version (leaf .origin) p)
+
+-- a parse of which only the end is kept
+unfoldable pub endOf : {A : Type 0} → Parse A → Parse Unit
+endOf m = then m λ a n. got tt n
+
+-- What each answer of the code says.
 abbrev pub saysNode : NodeField → Parse NodeHeader
 saysNode (GotNode h n) = got h n
 saysNode (RefusedNode k) = fails k
 
-abbrev pub saysOld : OldField → Parse Unit
-saysOld (GotOld n) = got tt n
-saysOld (RefusedOld k) = fails k
+abbrev pub saysEnd : EndField → Parse Unit
+saysEnd (GotEnd n) = got tt n
+saysEnd (RefusedEnd k) = fails k
 
 abbrev pub saysBlock : BlockField → Parse Block
 saysBlock (GotBlock b n) = got b n

@@ -5,7 +5,7 @@ ghost use Rattle.half.specs.Inner.{isWidth};
 ghost use Rattle.masks.specs.Masks.{maskBit, countBelow};
 ghost use Rattle.masks.specs.Inner.{IsMask};
 ghost use Rattle.nodes.specs.Nodes.{nodeField, sameCoord, originOf, buffersField, oldField, blockField};
-ghost use Rattle.nodes.specs.Inner.{saysNode, saysOld, saysBlock};
+ghost use Rattle.nodes.specs.Inner.{blockHead, endOf, saysNode, saysEnd, saysBlock};
 use coordinates::GlobalCoord;
 use fields::IVec3;
 use fields::IVec3Field;
@@ -41,7 +41,8 @@ pub enum NodeField {
     Refused(u32),
 }
 
-pub enum OldField {
+// Where something ends.
+pub enum EndField {
     Got(usize),
     Refused(u32),
 }
@@ -95,77 +96,93 @@ pub fn origin_of(v: IVec3) -> GlobalCoord
 }
 
 // The count of buffers that a block has under 222.
-fn read_buffers(s: &[u8], at: usize) -> OldField
-    ensures { λ r. ⌜ saysOld r ≡ buffersField (now (s .entry)) at ⌝ }
+fn read_buffers(s: &[u8], at: usize) -> EndField
+    ensures { λ r. ⌜ saysEnd r ≡ buffersField (now (s .entry)) at ⌝ }
 {
     match fields::read_u8(s, at) {
-        U8Field::Past => OldField::Refused(2),
+        U8Field::Past => EndField::Refused(2),
         U8Field::Got(buffers, p) => {
             if buffers == 1 {
-                return OldField::Got(p);
+                return EndField::Got(p);
             }
-            OldField::Refused(20)
+            EndField::Refused(20)
         }
     }
 }
 
 // What a block has between its mask and its values under 222: its leaf's origin and a count of buffers.
-fn read_old(s: &[u8], version: u32, origin: GlobalCoord, at: usize) -> OldField
-    ensures { λ r. ⌜ saysOld r ≡ oldField (now (s .entry)) version origin at ⌝ }
+fn read_old(s: &[u8], version: u32, origin: GlobalCoord, at: usize) -> EndField
+    ensures { λ r. ⌜ saysEnd r ≡ oldField (now (s .entry)) version origin at ⌝ }
 {
     if 222 <= version {
-        return OldField::Got(at);
+        return EndField::Got(at);
     }
     match fields::read_i_vec3(s, at) {
-        IVec3Field::Past => OldField::Refused(2),
+        IVec3Field::Past => EndField::Refused(2),
         IVec3Field::Got(v, p) => {
             if same_coord(origin_of(v), origin) {
                 return read_buffers(s, p);
             }
-            OldField::Refused(20)
+            EndField::Refused(20)
         }
     }
 }
 
-// The block of a leaf, whose mask in the topology has been tested to lie in the file and has so many ones. Where the block ends follows from
-// that count, so that the next block is found before this one's mask is there.
-pub fn read_counted_block(s: &[u8], c: Coding, leaf: Leaf, ones: usize, at: usize) -> BlockField
-    requires { ⌜ IsMask (now s) (leaf .mask) 64 × isWidth (c .width) × (ones ≡ countBelow (maskBit (now s) (leaf .mask)) 512) ⌝ }
-    ensures { λ r. ⌜ saysBlock r ≡ blockField (now (s .entry)) c leaf at ⌝ }
+// A leaf's block up to its values: its mask, which has to be the topology's, and what stands there under 222. The callers have tested that the
+// topology's mask lies in the file.
+fn read_block_head(s: &[u8], version: u32, leaf: Leaf, at: usize) -> EndField
+    requires { ⌜ IsMask (now s) (leaf .mask) 64 ⌝ }
+    ensures { λ r. ⌜ saysEnd r ≡ blockHead (now (s .entry)) version leaf at ⌝ }
 {
     let SpanField::Got(block_mask, p) = fields::read_bytes(s, at, 64) else {
-        return BlockField::Refused(2);
+        return EndField::Refused(2);
     };
     let mask = block_mask.start;
     let topology_mask = leaf.mask;
     if !masks::masks_equal(s, mask, topology_mask, 64) {
-        return BlockField::Refused(20);
+        return EndField::Refused(20);
     }
     let origin = leaf.origin;
-    match read_old(s, c.version, origin, p) {
-        OldField::Refused(k) => BlockField::Refused(k),
-        OldField::Got(q) => {
-            match values::read_counted(s, c, Stored::Every, 64, mask, mask, ones, q) {
+    read_old(s, version, origin, p)
+}
+
+// The block of a leaf.
+pub fn read_block(s: &[u8], c: Coding, leaf: Leaf, at: usize) -> BlockField
+    requires { ⌜ IsMask (now s) (leaf .mask) 64 × isWidth (c .width) ⌝ }
+    ensures { λ r. ⌜ saysBlock r ≡ blockField (now (s .entry)) c leaf at ⌝ }
+{
+    match read_block_head(s, c.version, leaf, at) {
+        EndField::Refused(k) => BlockField::Refused(k),
+        EndField::Got(p) => {
+            match values::read_values(s, c, Stored::Every, 64, at, at, p) {
                 ValuesField::Refused(k) => BlockField::Refused(k),
-                ValuesField::Got(values, r) => BlockField::Got(
-                    Block {
+                ValuesField::Got(values, q) => {
+                    let origin = leaf.origin;
+                    let block = Block {
                         origin,
-                        mask,
+                        mask: at,
                         values,
-                    },
-                    r,
-                ),
+                    };
+                    BlockField::Got(block, q)
+                }
             }
         }
     }
 }
 
-// The same, with the ones counted here.
-pub fn read_block(s: &[u8], c: Coding, leaf: Leaf, at: usize) -> BlockField
-    requires { ⌜ IsMask (now s) (leaf .mask) 64 × isWidth (c .width) ⌝ }
-    ensures { λ r. ⌜ saysBlock r ≡ blockField (now (s .entry)) c leaf at ⌝ }
+// Where the block of a leaf ends, whose mask in the topology has so many ones. This follows from that count, so that the next block is found
+// before this one's mask is there; and nothing of the block is kept.
+pub fn pass_block(s: &[u8], c: Coding, leaf: Leaf, ones: usize, at: usize) -> EndField
+    requires { ⌜ IsMask (now s) (leaf .mask) 64 × isWidth (c .width) × (ones ≡ countBelow (maskBit (now s) (leaf .mask)) 512) ⌝ }
+    ensures { λ r. ⌜ saysEnd r ≡ endOf (blockField (now (s .entry)) c leaf at) ⌝ }
 {
-    let mask = leaf.mask;
-    let ones = masks::count_ones(s, mask, 64) as usize;
-    read_counted_block(s, c, leaf, ones, at)
+    match read_block_head(s, c.version, leaf, at) {
+        EndField::Refused(k) => EndField::Refused(k),
+        EndField::Got(p) => {
+            match values::read_counted(s, c, Stored::Every, 64, at, at, ones, p) {
+                ValuesField::Refused(k) => EndField::Refused(k),
+                ValuesField::Got(_, q) => EndField::Got(q),
+            }
+        }
+    }
 }

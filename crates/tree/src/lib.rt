@@ -3,19 +3,23 @@ ghost use mathlib.Core.Path.{_≡_};
 ghost use mathlib.Core.Bool.{true};
 ghost use Prim.Native.Nat.{_+_, _*_, _≤_, _<_};
 ghost use mathlib.Core.List.{[]};
+ghost use mathlib.Core.Option.{some};
+ghost use lib.Dec.{eqb};
 ghost use lib.ListN.{length};
+ghost use Rattle.fields.specs.Parse.{when};
 ghost use Rattle.coordinates.specs.Coordinates.{aligned, globalOf};
 ghost use Rattle.half.specs.Inner.{isWidth};
 ghost use Rattle.masks.specs.Masks.{maskBit, ones, countBelow};
 ghost use Rattle.masks.specs.Inner.{IsMask};
 ghost use Rattle.tree.specs.Topology.{leafField, childField};
-ghost use Rattle.tree.specs.Inner.{plusTiles, plusLeaf, plus4, passOne, passing, passingNode, ranFrom, passingRoots, traversal, totalsOf, Few, fewField, fewTopology, saysPass, saysTopology};
+ghost use Rattle.tree.specs.Inner.{plusTiles, plusLeaf, plus4, blockAfter, passOne, passing, passingNode, ranFrom, passingRoots, traversal, totalsOf, Few, fewField, fewTopology, saysLeaf, saysPassed, saysPass, saysTopology};
 use coordinates::GlobalCoord;
 use coordinates::Index;
 use fields::SpanField;
 use masks::NextOne;
 use nodes::Block;
 use nodes::BlockField;
+use nodes::EndField;
 use nodes::Leaf;
 use nodes::NodeField;
 use nodes::NodeHeader;
@@ -68,39 +72,6 @@ fn wide(n: u32) -> u64
     n as u64
 }
 
-// The next leaf, where a block has been refused: no other is read.
-fn skip_leaf(
-    s: &[u8],
-    c: Coding,
-    wanted: u64,
-    origin: GlobalCoord,
-    child: usize,
-    start: u32,
-    k: u32,
-    t: Pass,
-) -> RunField
-    requires { ⌜ Few (now s) t × IsMask (now s) child 512 × (start ≤ 4096) × (t .blocks .at ≡ BlocksAt.Refused k) ⌝ }
-    ensures { λ r. ⌜ ranFrom (now (s .entry)) c wanted origin child start t r ⌝ }
-{
-    let at = t.at;
-    let active_tiles = t.active_tiles;
-    let blocks = t.blocks;
-    let NextOne::At(p) = masks::next_one(s, child, 512, Index(start)) else {
-        return RunField::Done(t);
-    };
-    let SpanField::Got(_, q) = fields::read_bytes(s, at, 64) else {
-        return RunField::Refused(2);
-    };
-    RunField::Stopped(
-        p.0 + 1,
-        Pass {
-            at: q,
-            active_tiles,
-            blocks,
-        },
-    )
-}
-
 // The leaf at place p of the 4-node with this origin.
 fn leaf_at(origin: GlobalCoord, p: Index, mask: usize) -> Leaf
     requires { ⌜ (aligned 128 origin ≡ true) × (p .0 < 4096) ⌝ }
@@ -137,9 +108,85 @@ fn pass_of(
     }
 }
 
-// The leaves from a place on with their blocks from `first` on, to the wanted one or a refused one. The pass is kept as numbers, so that no
-// struct is copied for a leaf; and ones are counted in the topology's mask alone, so that the next block's position waits for no byte of this
-// block, only for the branches on it.
+// The leaf that is kept behind the block with this number.
+fn kept_leaf(found: FoundLeaf, wanted: u64, number: u64, b: Block) -> FoundLeaf
+    ensures { λ r. ⌜ saysLeaf r ≡ when (eqb number wanted) (some b) (saysLeaf found) ⌝ }
+{
+    if number == wanted {
+        return FoundLeaf::At(b);
+    }
+    found
+}
+
+// The blocks with one leaf more; where one was refused, no other is read.
+fn add_block(s: &[u8], c: Coding, wanted: u64, leaf: Leaf, before: Passed) -> Passed
+    requires { ⌜ IsMask (now s) (leaf .mask) 64 × isWidth (c .width) × (before .leaves ≤ 2147483647) × (before .voxels ≤ 512 * before .leaves) ⌝ }
+    ensures { λ r. ⌜ (saysPassed r ≡ blockAfter (now (s .entry)) c wanted leaf (saysPassed before)) × (r .leaves ≤ before .leaves + 1) × (r .voxels ≤ 512 * r .leaves) ⌝ }
+{
+    let state = before.at;
+    let found = before.found;
+    let number = before.leaves;
+    let BlocksAt::At(first) = state else {
+        return before;
+    };
+    let leaves = number + 1;
+    let voxels = before.voxels + wide(masks::count_ones(s, leaf.mask, 64));
+    match nodes::read_block(s, c, leaf, first) {
+        BlockField::Refused(k) => Passed {
+            at: BlocksAt::Refused(k),
+            leaves,
+            voxels,
+            found,
+        },
+        BlockField::Got(b, p) => {
+            let kept = kept_leaf(found, wanted, number, b);
+            Passed {
+                at: BlocksAt::At(p),
+                leaves,
+                voxels,
+                found: kept,
+            }
+        }
+    }
+}
+
+// The next leaf, whatever the state of the blocks is.
+fn pass_leaf(
+    s: &[u8],
+    c: Coding,
+    wanted: u64,
+    origin: GlobalCoord,
+    child: usize,
+    start: u32,
+    t: Pass,
+) -> RunField
+    requires { ⌜ Few (now s) t × isWidth (c .width) × (aligned 128 origin ≡ true) × IsMask (now s) child 512 × (start ≤ 4096) ⌝ }
+    ensures { λ r. ⌜ ranFrom (now (s .entry)) c wanted origin child start t r ⌝ }
+{
+    let at = t.at;
+    let active_tiles = t.active_tiles;
+    let before = t.blocks;
+    let NextOne::At(p) = masks::next_one(s, child, 512, Index(start)) else {
+        return RunField::Done(t);
+    };
+    let SpanField::Got(span, q) = fields::read_bytes(s, at, 64) else {
+        return RunField::Refused(2);
+    };
+    let leaf = leaf_at(origin, p, span.start);
+    let blocks = add_block(s, c, wanted, leaf, before);
+    RunField::Stopped(
+        p.0 + 1,
+        Pass {
+            at: q,
+            active_tiles,
+            blocks,
+        },
+    )
+}
+
+// The leaves from a place on with their blocks from `first` on, up to the wanted one or behind a refused one. The pass is kept as numbers, so
+// that no struct is copied for a leaf; of a block nothing but its end is kept; and ones are counted in the topology's mask alone, so that the
+// next block's position waits for no byte of this block, only for the branches on it.
 fn run_blocks(
     s: &[u8],
     c: Coding,
@@ -150,7 +197,7 @@ fn run_blocks(
     first: usize,
     t: Pass,
 ) -> RunField
-    requires { ⌜ Few (now s) t × isWidth (c .width) × (aligned 128 origin ≡ true) × IsMask (now s) child 512 × (start ≤ 4096) × (t .blocks .at ≡ BlocksAt.At first) ⌝ }
+    requires { ⌜ Few (now s) t × isWidth (c .width) × (aligned 128 origin ≡ true) × IsMask (now s) child 512 × (start ≤ 4096) × (t .blocks .at ≡ BlocksAt.At first) × (t .blocks .leaves ≡ wanted → ⊥) ⌝ }
     ensures { λ r. ⌜ ranFrom (now (s .entry)) c wanted origin child start t r ⌝ }
 {
     let tiles = t.active_tiles;
@@ -170,19 +217,18 @@ fn run_blocks(
         };
         let n = masks::count_ones(s, span.start, 64);
         let leaf = leaf_at(origin, p, span.start);
-        let number = leaves;
         from = p.0 + 1;
         at = q;
         leaves = leaves + 1;
         voxels = voxels + wide(n);
-        match nodes::read_counted_block(s, c, leaf, n as usize, block) {
-            BlockField::Refused(k) => {
+        match nodes::pass_block(s, c, leaf, n as usize, block) {
+            EndField::Refused(k) => {
                 let u = pass_of(at, tiles, BlocksAt::Refused(k), leaves, voxels, found);
                 return RunField::Stopped(from, u);
             }
-            BlockField::Got(x, r) => {
-                if number == wanted {
-                    let u = pass_of(at, tiles, BlocksAt::At(r), leaves, voxels, FoundLeaf::At(x));
+            EndField::Got(r) => {
+                if leaves == wanted {
+                    let u = pass_of(at, tiles, BlocksAt::At(r), leaves, voxels, found);
                     return RunField::Stopped(from, u);
                 }
                 block = r;
@@ -191,7 +237,7 @@ fn run_blocks(
     }
 }
 
-// The leaves from a place on, as far as they are passed at once.
+// The leaves from a place on, as far as they are passed at once: the wanted one, which is kept, and those behind a refused one are passed alone.
 fn run_leaves(
     s: &[u8],
     c: Coding,
@@ -206,10 +252,12 @@ fn run_leaves(
 {
     let blocks = t.blocks;
     let state = blocks.at;
-    match state {
-        BlocksAt::At(first) => run_blocks(s, c, wanted, origin, child, start, first, t),
-        BlocksAt::Refused(k) => skip_leaf(s, c, wanted, origin, child, start, k, t),
+    if let BlocksAt::At(first) = state {
+        if blocks.leaves != wanted {
+            return run_blocks(s, c, wanted, origin, child, start, first, t);
+        }
     }
+    pass_leaf(s, c, wanted, origin, child, start, t)
 }
 
 // The leaves of the 4-node with this origin and child mask, by rising child bit, run by run.

@@ -1,24 +1,23 @@
 -- The run keeps what is left to pass: each leaf with its block takes one one off the child mask. The topology's mask and the block's have the
 -- same ones.
 use borrow.Author.Needs.{needs}
-use borrow.Author.Tests.{eq-eqb, ne-eqb}
+use borrow.Author.Tests.{ne-eqb}
 use mathlib.Core.Path.{_≡_, refl, sym, ap, _∙_}
 use mathlib.Core.Bool.{Bool}
-use mathlib.Core.Option.{Option, some}
+use mathlib.Core.Option.{some}
 use Prim.Native.Nat.{ℕ, _+_, _-_, _≤_, _<_}
 use native.Mathlib.Omega.{arith}
-use lib.Dec.{lit≤, eqb}
-use Rattle.fields.specs.Parse.{Parse, got, when}
+use lib.Dec.{lit≤}
+use Rattle.fields.specs.Parse.{Parse, got}
 use Rattle.fields.specs.Fields.{bytesField}
 use Rattle.fields.specs.Inner.{saysSpan}
-use Rattle.fields.proofs.Laws.{then-got, then-fails, told, when-true, when-false}
+use Rattle.fields.proofs.Laws.{then-got, then-fails, told, when-false}
 use Rattle.masks.specs.Masks.{maskBit, onesFrom, countBelow}
 use Rattle.masks.specs.Inner.{nextOne, saysNext}
 use Rattle.masks.proofs.Laws.{count-le, next-lt, next-from}
-use Rattle.nodes.specs.Inner.{saysBlock}
+use Rattle.nodes.specs.Inner.{saysEnd}
 use Rattle.nodes.specs.declared.Leaf.{Leaf}
-use Rattle.nodes.specs.declared.Block.{Block}
-use Rattle.nodes.proofs.Laws.{whole-mask}
+use Rattle.nodes.proofs.Laws.{whole-mask, end-back, end-fails}
 use Rattle.tree.specs.Topology.{leafField}
 use Rattle.tree.specs.Inner.{Summary, blockAfter, passOne, passing, plusLeaf, passingFrom, saysLeaf, Few}
 use Rattle.tree.specs.declared.Pass.{Pass}
@@ -33,6 +32,7 @@ Inv-loop s c wanted origin child start first tiles found from₀ at₀ block₀ 
     × (from ≤ 4096)
     × (passingFrom s c wanted origin child from (passOf at tiles block leaves voxels found) ≡ passingFrom s c wanted origin child start (passOf at₀ tiles first leaves₀ voxels₀ found))
     × Few s (passOf at tiles block leaves voxels found)
+    × (leaves ≡ wanted → ⊥)
 
 abbrev μ-loop : tie.MeasureT-loop
 μ-loop s c wanted origin child start first tiles found from₀ at₀ block₀ leaves₀ voxels₀ from at block leaves voxels = 4096 - from
@@ -40,7 +40,7 @@ abbrev μ-loop : tie.MeasureT-loop
 loop-holds : tie.Need-loop-holds Inv-loop μ-loop
 loop-holds c =
     let few = c .before .before .pre .0 in
-    (omega arith, c .before .before .pre .4, refl, record { inside = few .inside; small = few .small; active-tiles = few .active-tiles; leaves = few .leaves; voxels = few .voxels })
+    (omega arith, c .before .before .pre .4, refl, record { inside = few .inside; small = few .small; active-tiles = few .active-tiles; leaves = few .leaves; voxels = few .voxels }, c .before .before .pre .6)
 
 -- The pass at the entry, as numbers.
 abbrev first-pass : tie.Start Inv-loop μ-loop → Pass
@@ -155,7 +155,7 @@ returns-3 : tie.Need-returns-3 Inv-loop μ-loop
 returns-3 c =
     let h = c .before .before .before .before .before in
     let p = start h in
-    let refused = told saysBlock (c .before .before .k .given .1) (c .before .before .before .before .read-counted-block .ensures) in
+    let refused = end-fails _ (told saysEnd (c .before .before .k .given .1) (c .before .before .before .before .pass-block .ensures)) in
     rw (c .pass-of2 .ensures) (
       left h _ (now-refused (p .args .s .now) (p .args .c) (p .args .wanted) (leaf h) (before h) _ _ refused) ∙ back p,
       small h _ _,
@@ -163,28 +163,27 @@ returns-3 c =
       omega (arith, next-below (place h)),
     )
 
--- The block that was read, and which leaf is kept.
-one-more : (c : tie.After-known-told4 Inv-loop μ-loop) (found : Option Block) →
-    found ≡ when (eqb (loop (c .before .before .before .before) .loop .leaves) (start (c .before .before .before .before) .args .wanted)) (some (c .before .x .given .0 .0))
-    (saysLeaf (start (c .before .before .before .before) .args .t .blocks .found)) →
+-- The block that was passed is not the wanted one, so that the leaf that was kept stays.
+one-more : (c : tie.After-known-told4 Inv-loop μ-loop) →
     got (record {
       leaves = loop (c .before .before .before .before) .loop .leaves + 1;
       voxels = loop
           (c .before .before .before .before) .loop .voxels + c .before .before .before .before .wide .result;
-      found = found;
-    }) (c .before .x .given .0 .1 .0)
+      found = saysLeaf (start (c .before .before .before .before) .args .t .blocks .found);
+    }) (c .before .r .given .0 .0)
     ≡ blockAfter (start (c .before .before .before .before) .args .s .now) (start (c .before .before .before .before) .args .c)
     (start (c .before .before .before .before) .args .wanted) (leaf (c .before .before .before .before))
     (got (before (c .before .before .before .before)) (loop (c .before .before .before .before) .loop .block))
-one-more c found e =
+one-more c =
     let h = c .before .before .before .before in
-    one-block _ _ _ (leaf h) (before h) _ _ _ _ found (told saysBlock (c .before .x .given .1) (c .before .before .before .read-counted-block .ensures)) (counted h) e
+    let b = end-back _ (told saysEnd (c .before .r .given .1) (c .before .before .before .pass-block .ensures)) in
+    one-block _ _ _ (leaf h) (before h) _ (b .0) _ _ _ (b .1) (counted h) (when-false _ (sym (ne-eqb _ _ (loop h .loop .inv .4))) refl)
 
 returns-4 : tie.Need-returns-4 Inv-loop μ-loop
 returns-4 c =
     let h = c .before .before .before .before .before .before in
     rw (c .pass-of3 .ensures) (
-      left h _ (one-more (c .before .before) _ (when-true _ (sym (eq-eqb _ _ (c .before .if1 .taken))) refl)) ∙ back (start h),
+      left h _ (one-more (c .before .before)) ∙ back (start h),
       small h _ _,
       omega (arith, loop h .loop .inv .0, next-later (place h)),
       omega (arith, next-below (place h)),
@@ -198,8 +197,9 @@ loop-again c =
     let h = c .before .before .before .before .before in (
       omega (arith, loop h .loop .inv .0, next-later (place h)),
       omega (arith, next-below (place h)),
-      left h _ (one-more (c .before) _ (when-false _ (sym (ne-eqb _ _ (c .if1 .left))) refl)),
+      left h _ (one-more (c .before)),
       small h _ _,
+      c .if1 .left,
     )
 
 pub run-blocks-spec : {M : Type 1} → statement M
