@@ -1,18 +1,15 @@
 /*
- * What opening costs at the least: beside a memcpy of the file and `vdb_open_grid_numbered`, in turn, a plain loop over the leaves of a cloud of floats that
- * make_cloud.cc wrote. It takes the steps that no reader can leave out: it counts the ones of the topology's mask, compares the block's mask with it, reads the
- * node byte and goes on to the next block. Where the topology's masks stand it is told. Processor time, medians.
+ * What opening costs at the least: a plain loop over the leaves of a cloud of floats that make_cloud.cc wrote. It takes the steps that no reader can leave
+ * out: it counts the ones of the topology's mask, by the processor's own instruction, compares the block's mask with it, reads the node byte and goes on to
+ * the next block. Where the topology's masks stand it is told.
  *
- *     cc -O3 -mpopcnt -Iinclude -o bench/build/least bench/least.c target/staticlib/libvdb.a
- *     bench/build/least bench/build/clouds/fog_100_4.vdb
+ *     least FILE REPETITIONS    each repetition copies the file first, as ours.c does; the first one is not timed
  */
 #include <stdlib.h>
 #include <string.h>
 
 #include "record.h"
 #include "vdb.h"
-
-enum { TIMES = 31, COPY = 0, OPENING, LOOP, KINDS };
 
 static uint8_t *file, *copy;
 static size_t len, leaves, first_block;
@@ -94,42 +91,26 @@ static __attribute__((noinline)) void loop(void)
     if (at > len) stop("past the end");
 }
 
-static void run(int kind)
+static void measure(int timed)
 {
-    uint64_t opened[VDB_OPENED_WORDS], place[VDB_PLACE_WORDS];
-    if (kind == COPY) memcpy(copy, file, len);
-    if (kind == LOOP) loop();
-    if (kind == OPENING && vdb_open_grid_numbered(file, len, 0, opened, place) != 0) stop("refused");
+    memcpy(copy, file, len);
     __asm__ volatile("" : : "r"(copy) : "memory");
-}
-
-static int rising(const void *a, const void *b)
-{
-    const double x = *(const double *)a, y = *(const double *)b;
-    return (x > y) - (x < y);
+    const struct moment from = start();
+    loop();
+    if (timed) print_time("least", from);
 }
 
 int main(int argc, char **argv)
 {
-    double times[KINDS][TIMES];
-    FILE *f = argc == 2 ? fopen(argv[1], "rb") : NULL;
-    if (f == NULL || fseek(f, 0, SEEK_END) != 0) stop("give a cloud");
+    FILE *f = argc == 3 ? fopen(argv[1], "rb") : NULL;
+    if (f == NULL || fseek(f, 0, SEEK_END) != 0) stop("usage: least FILE REPETITIONS");
     len = (size_t)ftell(f);
     rewind(f);
     file = malloc(len), copy = malloc(len), masks = malloc(len);
     if (file == NULL || copy == NULL || masks == NULL || fread(file, 1, len, f) != len) stop("not read");
-    memset(copy, 1, len);
+    fclose(f);
     find_masks();
-    for (int i = 0; i < TIMES; i++)
-        for (int kind = OPENING; kind < KINDS; kind++) {
-            const double a = clock_ms(CLOCK_PROCESS_CPUTIME_ID);
-            run(COPY);
-            const double b = clock_ms(CLOCK_PROCESS_CPUTIME_ID);
-            run(kind);
-            times[COPY][i] = b - a;
-            times[kind][i] = clock_ms(CLOCK_PROCESS_CPUTIME_ID) - b;
-        }
-    for (int kind = 0; kind < KINDS; kind++) qsort(times[kind], TIMES, sizeof **times, rising);
-    const double c = times[COPY][TIMES / 2], o = times[OPENING][TIMES / 2], l = times[LOOP][TIMES / 2];
-    printf("%zu leaves: memcpy %.2f ms, opening %.2f ms, %.2f of it, the plain loop %.2f ms, %.2f of it\n", leaves, c, o, o / c, l, l / c);
+    print_number("leaves", leaves);
+    for (int i = 0; i <= atoi(argv[2]); i++) measure(i > 0);
+    return 0;
 }

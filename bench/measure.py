@@ -55,6 +55,8 @@ def measure(path, programs):
     for number in range(rounds):
         print(f'bench: {path.name}, round {number + 1} of {rounds}', file=sys.stderr)
         for program in programs:
+            if program.name == 'least' and cloud.width != '4':
+                continue
             cloud.take(program.name, lines_of([program, path, str(repetitions)]))
     # Inactive places of a level set hold a background in OpenVDB that document 01 does not have.
     if cloud.kind == 'fog' and cloud.numbers['openvdb_leaf_sum'] != cloud.numbers['leaf_sum']:
@@ -129,7 +131,7 @@ def counts(build, cloud):
 
 
 def run(build, short):
-    programs = [build / name for name in ('ours', 'openvdb', 'rust') if (build / name).exists()]
+    programs = [build / name for name in ('ours', 'least', 'openvdb', 'rust') if (build / name).exists()]
     paths = sorted((build / 'clouds').glob('*.vdb'), key=parts_of)
     paths = [p for p in paths if not (short and '_100_' in p.stem)]
     figures = machine()

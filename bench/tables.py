@@ -73,9 +73,9 @@ def name_of(cloud):
 
 
 def opening(f):
-    head = ['Cloud', 'bytes', 'leaves', 'records', 'memcpy, ms', 'opening, ms', 'opening / memcpy']
+    head = ['Cloud', 'bytes', 'leaves', 'records', 'memcpy, ms', 'opening, ms', 'least, ms', 'opening / memcpy', 'least / memcpy']
     return head, [[name_of(c), f.number(c, 'bytes'), f.number(c, 'leaves'), f.number(c, 'records'), f.ms(c, 'memcpy'), f.ms(c, 'open'),
-                   f.ms(c, 'open') / f.ms(c, 'memcpy')] for c in f.clouds]
+                   f.ms(c, 'least'), f.ms(c, 'open') / f.ms(c, 'memcpy'), over(f.ms(c, 'least'), f.ms(c, 'memcpy'))] for c in f.clouds]
 
 
 def walking(f):
@@ -140,6 +140,7 @@ def targets(f):
     first[4:] = [shown(opened(c)) for c in large[2:]]
     return ['Target', 'limit'] + [f'{NAMES[kind]}, {NAMES[width]}' for kind, width in KINDS], [
         first,
+        bare('for comparison: the least that opening can cost / memcpy', lambda c: over(f.ms(c, 'least'), f.ms(c, 'memcpy'))),
         row('OpenVDB / ours, both with the file read', 20, lambda c: over(f.openvdb(c), f.ms(c, 'whole_read')), True),
         row('Rust / ours, both from memory', 20, lambda c: over(f.rust(c), f.ms(c, 'whole')), True),
         bare('for comparison: OpenVDB / the plain loop alone', lambda c: over(f.openvdb(c), f.ms(c, 'loop_4096'))),
