@@ -127,7 +127,7 @@ def line_by_line(dump, rust, paths, counts):
         for pair in itertools.zip_longest(*(side.stdout for side in sides), fillvalue=b'nothing'):
             words[pair[0].split(None, 1)[0].decode()] += 1
             if pair[0] != pair[1] and difference is None:
-                difference = first_difference(*(canonical.without_origins(line.decode()) for line in pair))
+                difference = canonical.first_difference(*(canonical.without_origins(line.decode()) for line in pair))
         counts.add('', kinds(words))
         if difference or any(side.wait() for side in sides):
             counts.strange += 1
