@@ -1062,7 +1062,8 @@ fn widen_subnormal(table: &[u32], h: u16) -> u32
     sign + subnormal(table, (p % 0x0400) as usize)
 }
 
-// Any other half. The fraction moves up 13 bits, and the exponent, which counts from 127 where a half's counts from 15, grows by 112.
+// Any other half. Exponent and fraction move up 13 bits, and the exponent, which counts from 127 where a half's counts from 15, grows by 112:
+// 0x3800_0000. One product serves both, since the walk widens each value of a cloud of halves here.
 // 0x7f80_0000 is an exponent of all ones: an infinity, or a NaN, whose quiet bit is set.
 fn widen_normal(h: u16) -> u32
     requires { ⌜ 0 < exponent h ⌝ }
@@ -1073,7 +1074,7 @@ fn widen_normal(h: u16) -> u32
     let x = p / 0x0400 % 32;
     let t = p % 0x0400;
     if x < 31 {
-        return sign + (x + 112) * 0x0080_0000 + t * 0x2000;
+        return sign + 0x3800_0000 + p % 0x8000 * 0x2000;
     }
     if t == 0 {
         return sign + 0x7f80_0000;

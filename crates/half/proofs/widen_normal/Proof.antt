@@ -1,13 +1,22 @@
 -- Each way out is one law: a normal half, an infinity, a NaN without its quiet bit and one with it.
 use borrow.Author.Needs.{needs}
 use borrow.Author.Tests.{lt-ltb, le-ltb}
+use mathlib.Core.Path.{_≡_, _∙_}
+use Prim.Native.Nat.{ℕ, _+_, _*_, _%_, _^_, _<_}
 use native.Mathlib.Omega.{arith}
+use Rattle.half.specs.Half.{sign, exponent, fraction}
 use Rattle.half.proofs.Laws.{widened-normal, widened-infinity, widened-nan}
 use Rattle.half.proofs.widen_normal.Statement.{statement}
 use Rattle.half.proofs.widen_normal.Tie as tie
 
+-- exponent and fraction moved up in one
+moved : (h : ℕ) → h < 65536 → sign h * 2 ^ 31 + 939524096 + h % 32768 * 2 ^ 13 ≡ sign h * 2 ^ 31 + (exponent h + 112) * 2 ^ 23 + fraction h * 2 ^ 13
+moved h l = omega arith
+
 returns : tie.Need-returns
-returns c = widened-normal (c .before .args .h) (omega arith) (omega arith) (c .if1 .taken)
+returns c =
+    let h = c .before .args .h in
+    moved h (omega arith) ∙ widened-normal h (omega arith) (omega arith) (c .if1 .taken)
 
 returns-2 : tie.Need-returns-2
 returns-2 c = widened-infinity (c .before .before .args .h) (omega arith) (omega arith) (c .if2 .taken)
@@ -22,8 +31,6 @@ pub widen-normal-spec : {M : Type 1} → statement M
 widen-normal-spec =
     tie.close
     (tie.spec
-    (λ c. search needs)
-    (λ c. search needs)
     (λ c. search needs)
     (λ c. search needs)
     (λ c. search needs)
