@@ -346,12 +346,16 @@ pub fn stored_value(s: &[u8], c: Coding, start: usize, k: usize) -> u32
     half::value_at(s, start + k * c.width, c.width)
 }
 
-// The same with the table of the halves lent, which is looked at for values of 2 bytes only.
+// The same with the table of the halves lent, which is looked at for values of 2 bytes only. The widths are constants here, so that a loop over
+// k has no product left.
 pub fn stored_with(table: &[u32], s: &[u8], c: Coding, start: usize, k: usize) -> u32
     requires { ⌜ (c .width ≡ 2 → isTable (now table)) × isWidth (c .width) × InRun (now s) c start k ⌝ }
     ensures { λ r. ⌜ r ≡ storedValue (now (s .entry)) (c .width) (start + k * c .width) ⌝ }
 {
-    half::value_with(table, s, start + k * c.width, c.width)
+    if c.width == 2 {
+        return half::value_with(table, s, start + k * 2, 2);
+    }
+    half::value_with(table, s, start + k * 4, 4)
 }
 
 // The value of one place. The callers of this function and of those below have the values from `read_values`.

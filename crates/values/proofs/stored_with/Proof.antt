@@ -1,0 +1,22 @@
+use borrow.Author.Needs.{needs}
+use mathlib.Core.Path.{_≡_}
+use native.Mathlib.Omega.{arith}
+use Rattle.values.proofs.stored_with.Statement.{statement}
+use Rattle.values.proofs.stored_with.Tie as tie
+
+-- a width that is not 2 is 4
+wide : (c : tie.Else1) → c .before .before .before .before .args .c .width ≡ 4
+wide c = omega (arith, c .before .before .before .before .pre .1)
+
+pub stored-with-spec : {M : Type 1} → statement M
+stored-with-spec =
+    tie.close
+    (tie.spec
+    (λ c. search needs)
+    (λ c. let p = c .before .before .before .before .pre in omega (arith, rw (c .if1 .taken) at (p .2 .1)))
+    (λ c κs. let p = c .before .before .before .before .pre in ((λ e. p .0 (c .if1 .taken)), rw (c .if1 .taken) at (p .2 .1), search needs))
+    (λ c. rw (c .before .if1 .taken) (c .value-with .ensures))
+    (λ c. search needs)
+    (λ c. let p = c .before .before .before .before .pre in omega (arith, rw (wide c) at (p .2 .1)))
+    (λ c κs. let p = c .before .before .before .before .pre in ((λ e. absurd (omega arith)), rw (wide c) at (p .2 .1), search needs))
+    (λ c. rw (wide (c .before)) (c .value-with2 .ensures)))
