@@ -4,7 +4,6 @@ use mathlib.Core.List.{List, [], _∷_, _++_}
 use mathlib.Core.Bool.{Bool, true, false, not, cond, true≢false}
 use Prim.Native.Nat.{ℕ, zero, suc, _+_, _-_, _*_, _/_, _%_, _^_, _≤_, _<_}
 use native.Mathlib.Nat.{sub-zero, add-zero, add-suc, suc-add, zero-add, lt-of-not-le, lt-of-lt-of-le, le-div-iff-mul-le, suc-mul}
-use native.Mathlib.Numerals.{add-one}
 use native.Mathlib.Omega.{arith}
 use lib.Count.{trailingZeros}
 use lib.Dec.{eqb, ltb}
@@ -18,14 +17,11 @@ use Rattle.masks.proofs.Laws.{ones-none, ones-one, ones-zero, ones-nil, ones-ex
 use Rattle.masks.proofs.Digits.{digit-shift, digit-past, trailing-zero, trailing-one, trailing-lt}
 use Rattle.values.specs.declared.Coding.{Coding}
 use Rattle.half.specs.Inner.{isTable, isWidth}
-use Rattle.half.specs.Half.{storedValue}
-use Rattle.coordinates.specs.Coordinates.{index, globalOf, aligned}
+use Rattle.coordinates.specs.Coordinates.{aligned}
 use Rattle.coordinates.proofs.Axis.{and-both}
-use Rattle.coordinates.specs.declared.GlobalCoord.{GlobalCoord}
 use Rattle.tree.specs.Active.{Record, sideOf, edgeOf}
 use Rattle.records.proofs.Levels.{masked}
 use Rattle.records.specs.Slots.{Slots, put, laid}
-use Rattle.records.specs.Inner.{recordOf}
 use Rattle.records.specs.Inner.{maskBytes, isInside, handPiece, Room, roomOf, isKept, standing, recordHere, Handed, nothing, cutOff, andThen, follow, handOut, skipped}
 use Rattle.records.specs.Inner.{Fills, AreBits, InWord, Few, Readable, Masks, passed, shifted, behind, handWord}
 use Rattle.records.specs.declared.Bits.{Bits}
@@ -54,21 +50,6 @@ pub starts : (j : ℕ) (H : Handed) (t₀ : Slots) → Going j H t₀ j H t₀
 starts j H t₀ = record { inside = refl; filled = refl; whole = refl; slots = refl }
 
 module _ {i : ℕ} {h : Handed} {t : Slots} {j : ℕ} {H : Handed} {t₀ : Slots} (g : Going i h t j H t₀) where
-  -- one more record
-  pub goes : {r : Record} {h′ : Handed} {t′ : Slots} → h ≡ andThen r h′ → t′ ≡ put t i r → Going (i + 1) h′ t′ j H t₀
-  unfolding laid
-  goes {r} {h′} {t′} e d = go (rw e at g)
-    where
-      go : Going i (andThen r h′) t j H t₀ → Going (i + 1) h′ t′ j H t₀
-      go k =
-          let n : i + 1 ≡ suc i = omega arith in
-          record {
-            inside = k .inside;
-            filled = omega (arith, k .filled);
-            whole = k .whole;
-            slots = rw (d, n) (k .slots);
-          }
-
   -- the end
   pub ends : {w : Inside} {b : Bool} {r : Run} → h ≡ record { records = []; inside = w; whole = b } → r ≡ record { inside = w; filled = i; whole = b } → Fills j H t₀ t r
   unfolding laid
@@ -223,29 +204,23 @@ module _ (s : List ℕ) (b : Bits) (word : InWord s b) where
         let n : suc (want - 1) ≡ want = omega arith in
         hand-past c want gap h (omega arith) (λ q i. trailing-zero 64 (b .value) q i) ∙ ap (λ (m : ℕ). handWord s c m (shifted b gap)) n
 
-  -- behind an active place
-  module _ (some-left : 0 < b .left) where
-    pub word-behind : InWord s (behind b)
-    word-behind =
-        record {
-          word = omega (arith, word .word);
-          places = omega (arith, word .places);
-          value-bits = bits-past 1 (omega arith) (word .value-bits);
-          child-bits = bits-past 1 (omega arith) (word .child-bits);
-        }
+  -- behind n active places
+  pub word-behind : (n : ℕ) → n ≤ b .left → InWord s (behind b n)
+  word-behind n l =
+      record {
+        word = omega (arith, word .word);
+        places = omega (arith, word .places);
+        value-bits = bits-past n l (word .value-bits);
+        child-bits = bits-past n l (word .child-bits);
+      }
 
-    module _ (c : Coding) (want : ℕ) (wanted : 0 < want) (active : maskBit s (b .inside .value) (b .inside .from) ≡ true) where
-      in-turn : handWord s c want b ≡ handOut s c (suc (want - 1)) (b .inside) (suc (b .left - 1))
-      in-turn =
-          let n : want ≡ suc (want - 1) = omega arith in
-          let k : b .left ≡ suc (b .left - 1) = omega arith in
-          ap₂ (λ (m i : ℕ). handOut s c m (b .inside) i) n k
-
-      pub hand-cut : roomOf s c (b .inside .start) ≤ b .inside .number → handWord s c want b ≡ cutOff (b .inside)
-      hand-cut l = in-turn ∙ handed-cut s c (want - 1) (b .inside) (b .left - 1) active l
-
-      pub hand-one : b .inside .number < roomOf s c (b .inside .start) → handWord s c want b ≡ andThen (recordHere s c (b .inside)) (handWord s c (want - 1) (behind b))
-      hand-one l = in-turn ∙ rw (add-one (b .inside .from), add-one (b .inside .number)) (handed-one s c (want - 1) (b .inside) (b .left - 1) active l)
+  pub hand-cut :
+      0 < b .left → (c : Coding) (want : ℕ) → 0 < want → maskBit s (b .inside .value) (b .inside .from) ≡ true → roomOf s c (b .inside .start) ≤ b .inside .number →
+      handWord s c want b ≡ cutOff (b .inside)
+  hand-cut some-left c want wanted active l =
+      let n : want ≡ suc (want - 1) = omega arith in
+      let k : b .left ≡ suc (b .left - 1) = omega arith in
+      ap₂ (λ (m i : ℕ). handOut s c m (b .inside) i) n k ∙ handed-cut s c (want - 1) (b .inside) (b .left - 1) active l
 
 -- no more places are skipped than there are
 pub skipped-le : (stored b z : ℕ) → skipped stored b z ≤ z
@@ -295,23 +270,13 @@ module _ (table s : List ℕ) (c : Coding) (room : ℕ) where
         active = a .1;
       }
 
-  pub readable-behind : (b : Bits) → Readable table s c room (b .inside) → Readable table s c room (behind b .inside)
-  readable-behind b h = readable-on (b .inside) _ _ (omega (arith, h .number)) h
+  pub readable-behind : (b : Bits) (n : ℕ) → Readable table s c room (b .inside) → Readable table s c room (behind b n .inside)
+  readable-behind b n h = readable-on (b .inside) _ _ (omega (arith, h .number)) h
 
 -- A record in slot i: as many slots as before.
 module _ (t t′ : Slots) (i : ℕ) (r : Record) (e : t′ ≡ put t i r) where
   pub put-same : {t₀ : Slots} → Same t t₀ → Same t′ t₀
   put-same h =
-      rw e record {
-        in-x = simp length-set (h .in-x);
-        in-y = simp length-set (h .in-y);
-        in-z = simp length-set (h .in-z);
-        in-level = simp length-set (h .in-level);
-        in-value = simp length-set (h .in-value);
-      }
-
-  pub put-room : {n : ℕ} → Room n t → Room n t′
-  put-room h =
       rw e record {
         in-x = simp length-set (h .in-x);
         in-y = simp length-set (h .in-y);
@@ -333,27 +298,13 @@ room-less t l h =
 -- A turn of the loop over a word: the next active place's record, or its value lies past the end.
 module _ (table s : List ℕ) (c : Coding) (room : ℕ) (b r : Bits) (h : Readable table s c room (b .inside)) (word : InWord s b) (some-active : b .value ≡ 0 → ⊥)
     (e : r ≡ shifted b (trailingZeros 64 (b .value))) (limit i : ℕ) (wanted : i < limit) where
-  at-active : handWord s c (limit - i) b ≡ handWord s c (limit - i) r
+  pub at-active : handWord s c (limit - i) b ≡ handWord s c (limit - i) r
   at-active = hand-active s b word some-active c (limit - i) (omega arith) ∙ ap (handWord s c (limit - i)) (sym e)
 
   pub turn-cut : room ≤ r .inside .number → handWord s c (limit - i) b ≡ cutOff (r .inside)
   turn-cut l =
       let a = active-there table s c room b r h word some-active e in
       at-active ∙ hand-cut s r (a .word) (a .some-left) c (limit - i) (omega arith) (a .active) (rw (a .readable .values) at l)
-
-  pub turn-one :
-      {b′ : Bits} {q : Record} → r .inside .number < room → q ≡ recordHere s c (r .inside) → b′ ≡ behind r →
-      handWord s c (limit - i) b ≡ andThen q (handWord s c (limit - (i + 1)) b′)
-  turn-one {b′} {q} l d f =
-      let a = active-there table s c room b r h word some-active e in
-      let n : limit - i - 1 ≡ limit - (i + 1) = omega arith in
-      at-active ∙ rw (d, f, ← n) (hand-one s r (a .word) (a .some-left) c (limit - i) (omega arith) (a .active) (rw (a .readable .values) at l))
-
-pub record-is :
-    (s : List ℕ) (c : Coding) (w : Inside) {o : GlobalCoord} {v : ℕ} → o ≡ globalOf (edgeOf (w .level)) (sideOf (w .level)) (w .origin) (index (w .from)) →
-    v ≡ storedValue s (c .width) (w .start + w .number * c .width) → recordOf o (w .level) v ≡ recordHere s c w
-unfolding recordHere
-record-is s c w e d = λ k. recordOf (e k) (w .level) (d k)
 
 pub run-is : {a b : Inside} {i : ℕ} {x y : Bool} → a ≡ b → x ≡ y → _≡_ {A = Run} (record { inside = a; filled = i; whole = x }) (record { inside = b; filled = i; whole = y })
 run-is {i = i} e d = λ k. record { inside = e k; filled = i; whole = d k }

@@ -38,3 +38,6 @@ level-small zero p h = lit< tt
 level-small (suc zero) p h = lit< tt
 level-small (suc (suc zero)) p h = lit< tt
 level-small (suc (suc (suc n))) p h = absurd (omega arith)
+
+pub level-of : (l p : ℕ) → p < places (edgeOf l) → l < 3
+level-of l p h = level-small l p (rw (masked l .bits) h)

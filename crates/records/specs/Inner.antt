@@ -1,7 +1,7 @@
 -- Inner matter: only contracts of inner functions cite it, and nothing here has to be believed.
 -- What handing out the records of a piece comes to, place by place, wherever in it a walk stands and whatever its words are.
 -- That for a piece of a grid these are the piece's own records is proved above, in the crate `place` (proofs/Own.antt).
-use Prim.Native.Nat.{ℕ, zero, suc, _+_, _-_, _*_, _/_, _^_, _≤_, _<_}
+use Prim.Native.Nat.{ℕ, zero, suc, _+_, _-_, _*_, _/_, _%_, _^_, _≤_, _<_}
 use mathlib.Core.Path.{_≡_}
 use mathlib.Core.List.{List, [], _∷_, _++_}
 use mathlib.Core.Bool.{Bool, true, false, not, cond, _&&_}
@@ -66,6 +66,30 @@ recordHere s c w = record {
   value = storedValue s (c .width) (w .start + w .number * c .width);
 }
 
+-- the corner of the k-th place from the next one on, and the value with the k-th number from the next one on
+abbrev pub cornerAt : Inside → ℕ → GlobalCoord
+cornerAt w k = globalOf (edgeOf (w .level)) (sideOf (w .level)) (w .origin) (index (w .from + k))
+
+unfoldable pub valueAt : List ℕ → Coding → Inside → ℕ → ℕ
+valueAt s c w k = storedValue s (c .width) (w .start + (w .number + k) * c .width)
+
+-- the records of the next n places, if all are active
+unfoldable pub runOf : List ℕ → Coding → Inside → ℕ → List Record
+unfolding valueAt
+runOf s c w zero = []
+runOf s c w (suc n) = runOf s c w n ++ recordOf (cornerAt w n) (w .level) (valueAt s c w n) ∷ []
+
+-- n elements from i on set, the k-th to f k
+unfoldable pub ranged : {A : Type 0} → List A → ℕ → ℕ → (ℕ → A) → List A
+ranged xs i zero f = xs
+ranged xs i (suc n) f = set (ranged xs i n f) (i + n) (f n)
+
+-- a coordinate along x, y or z: axis 0, 1 or else
+abbrev pub axisOf : GlobalCoord → ℕ → ℤ
+axisOf o zero = o .0
+axisOf o (suc zero) = o .1
+axisOf o (suc (suc n)) = o .2
+
 -- What is handed out: records, where the walk stands behind them, and whether all that was needed lies in the file.
 pub record Handed : Type 0 where
   pub records : List Record
@@ -84,6 +108,10 @@ andThen r h = record { records = r ∷ h .records; inside = h .inside; whole = h
 -- one part, then another
 abbrev pub follow : Handed → Handed → Handed
 follow h g = record { records = h .records ++ g .records; inside = g .inside; whole = g .whole }
+
+-- the records of the next n places, if all are active
+abbrev pub handedRun : List ℕ → Coding → Inside → ℕ → Handed
+handedRun s c w n = record { records = runOf s c w n; inside = standing w (w .from + n) (w .number + n); whole = true }
 
 -- Of the next j places: no more records than are wanted, and none once a value lies past the end. Where nothing is wanted the walk stays.
 unfoldable pub handOut : List ℕ → Coding → ℕ → Inside → ℕ → Handed
@@ -154,9 +182,32 @@ passed b z = standing (b .inside) (b .inside .from + z) (b .inside .number + ski
 abbrev pub shifted : Bits → ℕ → Bits
 shifted b z = record { inside = passed b z; left = b .left - z; value = b .value / 2 ^ z; child = b .child / 2 ^ z }
 
--- behind the next place, which is active
-abbrev pub behind : Bits → Bits
-behind b = record { inside = standing (b .inside) (b .inside .from + 1) (b .inside .number + 1); left = b .left - 1; value = b .value / 2; child = b .child / 2 }
+-- behind the next n places, all active
+abbrev pub behind : Bits → ℕ → Bits
+behind b n = record {
+  inside = standing (b .inside) (b .inside .from + n) (b .inside .number + n);
+  left = b .left - n;
+  value = b .value / 2 ^ n;
+  child = b .child / 2 ^ n;
+}
+
+-- n places of a piece, one or more, in a row along z, with values in the file
+pub record InRow (room : ℕ) (w : Inside) (n : ℕ) : Type 0 where
+  pub some : 0 < n
+  pub row : w .from % 8 + n ≤ 8
+  pub places : w .from + n ≤ places (edgeOf (w .level))
+  pub values : w .number + n ≤ room
+
+-- a run of n places: active, in a row along z, and no more than m
+pub record IsRun (b : Bits) (m n : ℕ) : Type 0 where
+  pub some : 0 < n
+  pub bounded : n ≤ m
+  pub row : b .inside .from % 8 + n ≤ 8
+  pub active : (q : ℕ) → q < n → digit (b .value) q ≡ true
+
+-- whether a word has 64 active places, and there are slots and values for them
+unfoldable pub isFull : Bits → ℕ → ℕ → ℕ → Bool
+isFull b room slot limit = eqb (b .value) 18446744073709551615 && (leb (slot + 64) limit && leb (b .inside .number + 64) room)
 
 abbrev pub handWord : List ℕ → Coding → ℕ → Bits → Handed
 handWord s c want b = handOut s c want (b .inside) (b .left)

@@ -1,7 +1,10 @@
 // Document 01, section 7: the records of a piece, from where a walk stands in it, into five lent slices.
 ghost use mathlib.Core.Path.{_≡_};
 ghost use mathlib.Core.Bool.{true};
-ghost use Prim.Native.Nat.{_+_, _-_, _*_, _/_, _%_, _^_, _≤_, _<_};
+ghost use Prim.Native.Nat.{_+_, _-_, _*_, _/_, _%_, _^_, _≤_, _<_, min};
+ghost use lib.IntN.{pos, _+ℤ_};
+ghost use mir.Syntax.{w32};
+ghost use mir.Val.{SFits};
 ghost use lib.ListN.{length};
 ghost use Rattle.coordinates.specs.Coordinates.{places, globalOf, aligned};
 ghost use Rattle.coordinates.specs.Inner.{Divides};
@@ -9,8 +12,8 @@ ghost use Rattle.masks.specs.Masks.{maskBit, digit, countBelow};
 ghost use Rattle.half.specs.Inner.{isTable, isWidth};
 ghost use Rattle.tree.specs.Active.{sideOf, edgeOf, Record};
 ghost use lib.Count.{trailingZeros};
-ghost use Rattle.records.specs.Slots.{slotsOf, put, laid};
-ghost use Rattle.records.specs.Inner.{recordOf};
+ghost use Rattle.records.specs.Slots.{slotsOf, laid};
+ghost use Rattle.records.specs.Inner.{cornerAt, valueAt, axisOf, ranged, runOf, InRow, IsRun, isFull};
 ghost use Rattle.records.specs.Inner.{Readable, Few, InWord, Fills, passed, shifted, behind, handWord, handOut, Masks, Room, maskBytes, roomOf, isInside, handPiece, skipped};
 use coordinates::GlobalCoord;
 use coordinates::Index;
@@ -85,29 +88,160 @@ fn skip(stored: u32, b: u64, z: u32) -> usize
     }
 }
 
-// One record.
-fn put_record(
-    i: usize,
-    o: GlobalCoord,
-    l: u32,
-    v: u32,
+// How many voxels long a level's cubes are.
+fn side_of(level: u32) -> u32
+    requires { ⌜ level < 3 ⌝ }
+    ensures { λ r. ⌜ r ≡ sideOf level ⌝ }
+{
+    if level == 0 {
+        return 1;
+    }
+    if level == 1 {
+        return 8;
+    }
+    128
+}
+
+// How many voxels along z lie before a place in its piece.
+fn row_offset(level: u32, from: u32) -> u32
+    requires { ⌜ level < 3 ⌝ }
+    ensures { λ r. ⌜ r ≡ from % edgeOf level * sideOf level ⌝ }
+{
+    if level == 0 {
+        return from % 8;
+    }
+    if level == 1 {
+        return from % 16 * 8;
+    }
+    from % 32 * 128
+}
+
+// A coordinate n voxels on.
+fn voxels_on(v: i32, n: u32) -> i32
+    requires { ⌜ (n < 4096) × SFits w32 (v +ℤ pos n) ⌝ }
+    ensures { λ r. ⌜ r ≡ v +ℤ pos n ⌝ }
+{
+    v + n as i32
+}
+
+// The records of the next r places, all active and in one row along z, so that their corners differ in z alone.
+fn fill_run(
+    table: &[u32],
+    s: &[u8],
+    c: Coding,
+    room: usize,
+    w: Inside,
+    r: usize,
+    slot: usize,
     x: &mut [i32],
     y: &mut [i32],
     z: &mut [i32],
     level: &mut [u32],
     value: &mut [u32],
 )
-    requires { ⌜ Room (i + 1) (slotsOf (now x) (now y) (now z) (now level) (now value)) ⌝ }
-    ensures { λ r. ⌜ slotsOf (now (x .exit)) (now (y .exit)) (now (z .exit)) (now (level .exit)) (now (value .exit)) ≡ put (slotsOf (now (x .entry)) (now (y .entry)) (now (z .entry)) (now (level .entry)) (now (value .entry))) i (recordOf o l v) ⌝ }
+    requires { ⌜ Readable (now table) (now s) c room w × InRow room w r × Room (slot + r) (slotsOf (now x) (now y) (now z) (now level) (now value)) ⌝ }
+    ensures { λ u. ⌜ slotsOf (now (x .exit)) (now (y .exit)) (now (z .exit)) (now (level .exit)) (now (value .exit)) ≡ laid (slotsOf (now (x .entry)) (now (y .entry)) (now (z .entry)) (now (level .entry)) (now (value .entry))) slot (runOf (now (s .entry)) c w r) ⌝ }
 {
+    let l = w.level;
+    let origin = w.origin;
+    let o = corner(l, origin, Index(w.from));
     let ox = o.0;
     let oy = o.1;
-    let oz = o.2;
-    x[i] = ox;
-    y[i] = oy;
-    z[i] = oz;
-    level[i] = l;
-    value[i] = v;
+    let oz = origin.2;
+    let before = row_offset(l, w.from);
+    let side = side_of(l);
+    let mut k: usize = 0;
+    while k < r {
+        let i = slot + k;
+        x[i] = ox;
+        y[i] = oy;
+        z[i] = voxels_on(oz, before + k as u32 * side);
+        level[i] = l;
+        value[i] = values::stored_with(table, s, c, w.start, w.number + k);
+        k = k + 1;
+    }
+}
+
+// One coordinate of a corner.
+fn along(o: GlobalCoord, axis: u32) -> i32
+    ensures { λ r. ⌜ r ≡ axisOf o axis ⌝ }
+{
+    match axis {
+        0 => o.0,
+        1 => o.1,
+        _ => o.2,
+    }
+}
+
+// One coordinate of the corners of the next 64 places.
+fn fill_axis(w: Inside, axis: u32, slot: usize, x: &mut [i32])
+    requires { ⌜ (w .from + 64 ≤ places (edgeOf (w .level))) × (aligned (edgeOf (w .level) * sideOf (w .level)) (w .origin) ≡ true) × (slot + 64 ≤ length (now x)) ⌝ }
+    ensures { λ u. ⌜ now (x .exit) ≡ ranged (now (x .entry)) slot 64 (λ k. axisOf (cornerAt w k) axis) ⌝ }
+{
+    let mut k: usize = 0;
+    while k < 64 {
+        let i = slot + k;
+        x[i] = along(corner(w.level, w.origin, Index(w.from + k as u32)), axis);
+        k = k + 1;
+    }
+}
+
+// The level of 64 records.
+fn fill_level(l: u32, slot: usize, level: &mut [u32])
+    requires { ⌜ slot + 64 ≤ length (now level) ⌝ }
+    ensures { λ u. ⌜ now (level .exit) ≡ ranged (now (level .entry)) slot 64 (λ k. l) ⌝ }
+{
+    let mut k: usize = 0;
+    while k < 64 {
+        let at = slot + k;
+        level[at] = l;
+        k = k + 1;
+    }
+}
+
+// The values of the next 64 places.
+fn fill_values(
+    table: &[u32],
+    s: &[u8],
+    c: Coding,
+    room: usize,
+    w: Inside,
+    slot: usize,
+    value: &mut [u32],
+)
+    requires { ⌜ Readable (now table) (now s) c room w × (w .number + 64 ≤ room) × (w .from ≤ 32704) × (slot + 64 ≤ length (now value)) ⌝ }
+    ensures { λ u. ⌜ now (value .exit) ≡ ranged (now (value .entry)) slot 64 (valueAt (now (s .entry)) c w) ⌝ }
+{
+    let mut k: usize = 0;
+    while k < 64 {
+        let i = slot + k;
+        value[i] = values::stored_with(table, s, c, w.start, w.number + k);
+        k = k + 1;
+    }
+}
+
+// The records of the next 64 places, all active. Each slice is filled by a loop of its own, which the compiler vectorises.
+fn fill_full(
+    table: &[u32],
+    s: &[u8],
+    c: Coding,
+    room: usize,
+    w: Inside,
+    slot: usize,
+    x: &mut [i32],
+    y: &mut [i32],
+    z: &mut [i32],
+    level: &mut [u32],
+    value: &mut [u32],
+)
+    requires { ⌜ Readable (now table) (now s) c room w × (w .from + 64 ≤ places (edgeOf (w .level))) × (w .number + 64 ≤ room) × Room (slot + 64) (slotsOf (now x) (now y) (now z) (now level) (now value)) ⌝ }
+    ensures { λ u. ⌜ slotsOf (now (x .exit)) (now (y .exit)) (now (z .exit)) (now (level .exit)) (now (value .exit)) ≡ laid (slotsOf (now (x .entry)) (now (y .entry)) (now (z .entry)) (now (level .entry)) (now (value .entry))) slot (runOf (now (s .entry)) c w 64) ⌝ }
+{
+    fill_axis(w, 0, slot, x);
+    fill_axis(w, 1, slot, y);
+    fill_axis(w, 2, slot, z);
+    fill_level(w.level, slot, level);
+    fill_values(table, s, c, room, w, slot, value);
 }
 
 // The places of one mask word that are left, `left` of them: their bits of the value mask and of the child mask, the next place's lowest.
@@ -144,25 +278,46 @@ fn to_active(b: Bits) -> Bits
     }
 }
 
-// The word behind its next place, which is active.
-fn past_active(b: Bits) -> Bits
-    requires { ⌜ Few b × (0 < b .left) ⌝ }
-    ensures { λ r. ⌜ r ≡ behind b ⌝ }
+// The word behind its next r places, all active.
+fn past_run(b: Bits, r: usize) -> Bits
+    requires { ⌜ Few b × (r ≤ b .left) × (r < 64) ⌝ }
+    ensures { λ u. ⌜ u ≡ behind b r ⌝ }
 {
     let mut inside = b.inside;
-    inside.from = inside.from + 1;
-    inside.number = inside.number + 1;
+    inside.from = inside.from + r as u32;
+    inside.number = inside.number + r;
     Bits {
         inside,
-        left: b.left - 1,
-        value: b.value / 2,
-        child: b.child / 2,
+        left: b.left - r as u32,
+        value: masks::high_bits(b.value, r),
+        child: masks::high_bits(b.child, r),
     }
 }
 
-// The records of a word's places into the slots from `slot` on, no further than `limit`. A value is read only where its number is below `room`,
-// so that it lies in the file.
-fn fill_word(
+// The smaller of two numbers.
+fn least(a: usize, b: usize) -> usize
+    ensures { λ r. ⌜ r ≡ min a b ⌝ }
+{
+    if a < b {
+        return a;
+    }
+    b
+}
+
+// How many places are taken as one run: no more than n, all active, and in one row along z. A row has 8, 16 or 32 places, so that no run goes past
+// a multiple of 8. Where a longer run could be taken, the next one goes on with it.
+fn run_length(b: Bits, n: usize) -> usize
+    requires { ⌜ (b .value < 2 ^ 64) × (digit (b .value) 0 ≡ true) × (0 < n) ⌝ }
+    ensures { λ r. ⌜ IsRun b n r ⌝ }
+{
+    let ones = u64::trailing_zeros(0xffff_ffff_ffff_ffff - b.value) as usize;
+    let row = (8 - b.inside.from % 8) as usize;
+    least(least(ones, row), n)
+}
+
+// The records of a word's places into the slots from `slot` on, no further than `limit`, run by run. A value is read only where its number is below
+// `room`, so that it lies in the file.
+fn fill_runs(
     table: &[u32],
     s: &[u8],
     c: Coding,
@@ -194,20 +349,10 @@ fn fill_word(
             whole = false;
             break;
         }
-        let v = values::stored_with(table, s, c, w.start, w.number);
-        put_record(
-            i,
-            corner(w.level, w.origin, Index(w.from)),
-            w.level,
-            v,
-            x,
-            y,
-            z,
-            level,
-            value,
-        );
-        b = past_active(b);
-        i = i + 1;
+        let r = run_length(b, least(limit - i, room - w.number));
+        fill_run(table, s, c, room, w, r, i, x, y, z, level, value);
+        b = past_run(b, r);
+        i = i + r;
     }
     let inside = b.inside;
     Run {
@@ -215,6 +360,61 @@ fn fill_word(
         filled: i,
         whole,
     }
+}
+
+// Whether all 64 places of a word are active, with slots and values for them.
+fn is_full(b: Bits, room: usize, slot: usize, limit: usize) -> bool
+    ensures { λ r. ⌜ r ≡ isFull b room slot limit ⌝ }
+{
+    if b.value != 0xffff_ffff_ffff_ffff {
+        return false;
+    }
+    if limit < 64 {
+        return false;
+    }
+    if limit - 64 < slot {
+        return false;
+    }
+    if room < 64 {
+        return false;
+    }
+    if room - 64 < b.inside.number {
+        return false;
+    }
+    true
+}
+
+// The same, with full words apart: in a dense cloud most are.
+fn fill_word(
+    table: &[u32],
+    s: &[u8],
+    c: Coding,
+    room: usize,
+    word: Bits,
+    slot: usize,
+    limit: usize,
+    x: &mut [i32],
+    y: &mut [i32],
+    z: &mut [i32],
+    level: &mut [u32],
+    value: &mut [u32],
+) -> Run
+    requires { ⌜ Readable (now table) (now s) c room (word .inside) × InWord (now s) word × Room limit (slotsOf (now x) (now y) (now z) (now level) (now value)) ⌝ }
+    ensures { λ r. ⌜ Fills slot (handWord (now (s .entry)) c (limit - slot) word) (slotsOf (now (x .entry)) (now (y .entry)) (now (z .entry)) (now (level .entry)) (now (value .entry))) (slotsOf (now (x .exit)) (now (y .exit)) (now (z .exit)) (now (level .exit)) (now (value .exit))) r ⌝ }
+{
+    if is_full(word, room, slot, limit) {
+        let w = word.inside;
+        fill_full(table, s, c, room, w, slot, x, y, z, level, value);
+        let mut inside = w;
+        inside.from = inside.from + 64;
+        inside.number = inside.number + 64;
+        return Run {
+            inside,
+            filled: slot + 64,
+            whole: true,
+        };
+    }
+    fill_runs(table, s, c, room, word, slot, limit, x, y, z, level, value)
 }
 
 // The word that the next place is in, from that place on; the masks have n bytes.

@@ -1,0 +1,12 @@
+use borrow.Author.Needs.{needs}
+use Rattle.records.proofs.Runs.{axis-last}
+use Rattle.records.proofs.along.Statement.{statement}
+use Rattle.records.proofs.along.Tie as tie
+
+pub along-spec : {M : Type 1} → statement M
+along-spec =
+    tie.close
+    (tie.spec
+    (λ c. rw (c .before .match .keys1) (search needs))
+    (λ c. rw (c .before .match .keys2) (search needs))
+    (λ c. rw (← axis-last (c .before .before .args .o) (c .before .before .args .axis) (c .before .match .rest .0 .1) (c .before .match .rest .1)) (search needs)))
