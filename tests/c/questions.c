@@ -13,7 +13,7 @@
 
 #include "vdb.h"
 
-enum { ROOM = 1 << 18, SLOTS = 600 };
+enum { ROOM = 1 << 18, SLOTS = 1600 };
 
 static uint8_t file[ROOM];
 static size_t file_len;
@@ -208,7 +208,7 @@ static void opened(const struct question *q)
     if (refused(k)) return;
     printf(" %c", g[VDB_OPENED_MAP] == VDB_SCALE ? 's' : 't');
     for (uint64_t i = 0; i < g[VDB_OPENED_MAP]; i++) printf(" %016" PRIx64, g[VDB_OPENED_DOUBLES + i]);
-    printf(" %08" PRIx64 " %" PRIu64, g[VDB_OPENED_BACKGROUND], g[VDB_OPENED_ACTIVE_COUNT]);
+    printf(" %08" PRIx64 " %" PRIu64 " %" PRIu64, g[VDB_OPENED_BACKGROUND], g[VDB_OPENED_LEAF_COUNT], g[VDB_OPENED_ACTIVE_COUNT]);
     walk(place, g[VDB_OPENED_ACTIVE_COUNT]);
     walk_from_anywhere(place);
     runs(q, q->numbers == 1, (uint32_t)q->n[0], g[VDB_OPENED_LEAF_COUNT]);
@@ -221,7 +221,7 @@ static void fill(const struct question *q)
     uint64_t sum = 0;
     for (int i = 0; i < SLOTS; i++) slots[i] = 7;
     if (q->n[1] > SLOTS) stop("too many slots");
-    k = fill_one(q, q->numbers == 3, (uint32_t)q->n[2], q->n[0], slots, q->n[1]);
+    k = (q->command[0] == 'j' ? fill_run : fill_one)(q, q->numbers == 3, (uint32_t)q->n[2], q->n[0], slots, q->n[1]);
     if (!refused(k)) printf(" f");
     for (int i = 0; i < SLOTS; i++) {
         if (q->command[0] == 'v' && (i == 0 || slots[i] != slots[i - 1])) printf(" %d %08" PRIx32, i, slots[i]);
@@ -250,6 +250,7 @@ int main(int count, char **argument)
         case 'm': entry(&q); break;
         case 'o': opened(&q); break;
         case 'f':
+        case 'j':
         case 'v': fill(&q); break;
         default: stop(line);
         }

@@ -111,18 +111,23 @@ fn opened(file: &[u8], q: &Question) -> Result<String, ParseError> {
         }
     };
     let doubles: String = vectors.concat().iter().map(|double| format!(" {:016x}", double.to_bits())).collect();
-    Ok(format!(" {kind}{doubles} {:08x} {}", grid.background().to_bits(), grid.active_count()))
+    Ok(format!(" {kind}{doubles} {:08x} {} {}", grid.background().to_bits(), grid.leaf_count(), grid.active_count()))
 }
 
-/// All of the 600 slots are summed up, which hold 7 before the call, also those that are not lent.
+/// All of the 1,600 slots are summed up, which hold 7 before the call, also those that are not lent.
 fn fill(file: &[u8], q: &Question) -> Result<String, ParseError> {
-    let mut slots = [7; 600];
+    let mut slots = [7; 1600];
     let answer = VdbReader::new(file).and_then(|reader| {
         let grid = match q.numbers[..] {
             [_, _, n] => reader.read_grid_numbered(n as u32)?,
             _ => reader.read_grid(&q.names[0])?,
         };
-        grid.fill_leaf(q.numbers[0], &mut slots[..q.numbers[1] as usize])
+        let (first, lent) = (q.numbers[0], &mut slots[..q.numbers[1] as usize]);
+        if q.word == "joined" {
+            grid.fill_leaves(first, lent)
+        } else {
+            grid.fill_leaf(first, lent)
+        }
     });
     let mut text = match answer {
         Ok(()) => " f".to_string(),
@@ -144,7 +149,7 @@ fn without(word: &str, answer: &str) -> String {
         _ if answer.starts_with(" refused") => (),
         "header" => drop(words.remove(5)),
         "descriptor" => words.truncate(words.len() - 2),
-        "open" => drop(words.remove(words.len() - 2)),
+        "open" => drop(words.remove(words.len() - 3)),
         _ => (),
     }
     words.join(" ")
@@ -166,7 +171,7 @@ fn answers_are_those_of_openvdb() {
             "entry" => VdbReader::new(&file).and_then(|reader| entry(&file, reader.header.meta_data, &q.names[0])),
             "metadata" => grid_entry(&file, &q),
             "open" => opened(&file, &q),
-            "fill" | "values" => fill(&file, &q),
+            "fill" | "values" | "joined" => fill(&file, &q),
             word => panic!("{word}"),
         };
         let answer = answer.unwrap_or_else(|e| format!(" refused {}", e.number()));
