@@ -4,6 +4,7 @@ use mathlib.Core.List.{List, [], _∷_, _++_}
 use mathlib.Core.Bool.{Bool, true, false, not, cond, true≢false}
 use Prim.Native.Nat.{ℕ, zero, suc, _+_, _-_, _*_, _/_, _%_, _^_, _≤_, _<_}
 use native.Mathlib.Nat.{sub-zero, add-zero, add-suc, suc-add, zero-add, lt-of-not-le, lt-of-lt-of-le, le-div-iff-mul-le, suc-mul}
+use native.Mathlib.Numerals.{add-one}
 use native.Mathlib.Omega.{arith}
 use lib.Count.{trailingZeros}
 use lib.Dec.{eqb, ltb}
@@ -13,17 +14,19 @@ use borrow.Author.Tests.{lt-ltb, le-ltb, ltb-true, ltb-false, lt-leb, le-leb, le
 use Rattle.fields.specs.Parse.{when}
 use Rattle.masks.specs.Masks.{digit, maskBit, onesFrom, countBelow}
 use Rattle.masks.specs.Inner.{IsWord}
-use Rattle.masks.proofs.Laws.{ones-none, ones-one, ones-zero, ones-nil, ones-ext, length-suc, length-shift, length-zeros}
+use Rattle.masks.proofs.Laws.{ones-none, ones-nil, ones-ext, length-suc, length-shift, length-zeros}
 use Rattle.masks.proofs.Digits.{digit-shift, digit-past, trailing-zero, trailing-one, trailing-lt}
 use Rattle.values.specs.declared.Coding.{Coding}
 use Rattle.half.specs.Inner.{isTable, isWidth}
-use Rattle.coordinates.specs.Coordinates.{aligned}
+use Rattle.half.specs.Half.{storedValue}
+use Rattle.coordinates.specs.Coordinates.{index, globalOf, aligned}
+use Rattle.coordinates.specs.declared.GlobalCoord.{GlobalCoord}
 use Rattle.coordinates.proofs.Axis.{and-both}
 use Rattle.tree.specs.Active.{Record, sideOf, edgeOf}
 use Rattle.records.proofs.Levels.{masked}
 use Rattle.records.specs.Slots.{Slots, put, laid}
-use Rattle.records.specs.Inner.{maskBytes, isInside, handPiece, Room, roomOf, isKept, standing, recordHere, Handed, nothing, cutOff, andThen, follow, handOut, skipped}
-use Rattle.records.specs.Inner.{Fills, AreBits, InWord, Few, Readable, Masks, passed, shifted, behind, handWord}
+use Rattle.records.specs.Inner.{recordOf, maskBytes, isInside, handPiece, Room, roomOf, isKept, standing, recordHere, Handed, nothing, cutOff, andThen, follow, handOut, skipped}
+use Rattle.records.specs.Inner.{Fills, AreBits, InWord, Few, Readable, Masks, passed, shifted, behind, past, handWord}
 use Rattle.records.specs.declared.Bits.{Bits}
 use Rattle.records.specs.declared.Inside.{Inside}
 use Rattle.records.specs.declared.Run.{Run}
@@ -50,6 +53,21 @@ pub starts : (j : ℕ) (H : Handed) (t₀ : Slots) → Going j H t₀ j H t₀
 starts j H t₀ = record { inside = refl; filled = refl; whole = refl; slots = refl }
 
 module _ {i : ℕ} {h : Handed} {t : Slots} {j : ℕ} {H : Handed} {t₀ : Slots} (g : Going i h t j H t₀) where
+  -- one more record
+  pub goes : {r : Record} {h′ : Handed} {t′ : Slots} → h ≡ andThen r h′ → t′ ≡ put t i r → Going (i + 1) h′ t′ j H t₀
+  unfolding laid
+  goes {r} {h′} {t′} e d = go (rw e at g)
+    where
+      go : Going i (andThen r h′) t j H t₀ → Going (i + 1) h′ t′ j H t₀
+      go k =
+          let n : i + 1 ≡ suc i = omega arith in
+          record {
+            inside = k .inside;
+            filled = omega (arith, k .filled);
+            whole = k .whole;
+            slots = rw (d, n) (k .slots);
+          }
+
   -- the end
   pub ends : {w : Inside} {b : Bool} {r : Run} → h ≡ record { records = []; inside = w; whole = b } → r ≡ record { inside = w; filled = i; whole = b } → Fills j H t₀ t r
   unfolding laid
@@ -204,9 +222,9 @@ module _ (s : List ℕ) (b : Bits) (word : InWord s b) where
         let n : suc (want - 1) ≡ want = omega arith in
         hand-past c want gap h (omega arith) (λ q i. trailing-zero 64 (b .value) q i) ∙ ap (λ (m : ℕ). handWord s c m (shifted b gap)) n
 
-  -- behind n active places
-  pub word-behind : (n : ℕ) → n ≤ b .left → InWord s (behind b n)
-  word-behind n l =
+  -- behind n places
+  pub word-past : (n k : ℕ) → n ≤ b .left → InWord s (past b n k)
+  word-past n k l =
       record {
         word = omega (arith, word .word);
         places = omega (arith, word .places);
@@ -214,13 +232,18 @@ module _ (s : List ℕ) (b : Bits) (word : InWord s b) where
         child-bits = bits-past n l (word .child-bits);
       }
 
-  pub hand-cut :
-      0 < b .left → (c : Coding) (want : ℕ) → 0 < want → maskBit s (b .inside .value) (b .inside .from) ≡ true → roomOf s c (b .inside .start) ≤ b .inside .number →
-      handWord s c want b ≡ cutOff (b .inside)
-  hand-cut some-left c want wanted active l =
-      let n : want ≡ suc (want - 1) = omega arith in
-      let k : b .left ≡ suc (b .left - 1) = omega arith in
-      ap₂ (λ (m i : ℕ). handOut s c m (b .inside) i) n k ∙ handed-cut s c (want - 1) (b .inside) (b .left - 1) active l
+  module _ (some-left : 0 < b .left) (c : Coding) (want : ℕ) (wanted : 0 < want) (active : maskBit s (b .inside .value) (b .inside .from) ≡ true) where
+    in-turn : handWord s c want b ≡ handOut s c (suc (want - 1)) (b .inside) (suc (b .left - 1))
+    in-turn =
+        let n : want ≡ suc (want - 1) = omega arith in
+        let k : b .left ≡ suc (b .left - 1) = omega arith in
+        ap₂ (λ (m i : ℕ). handOut s c m (b .inside) i) n k
+
+    pub hand-cut : roomOf s c (b .inside .start) ≤ b .inside .number → handWord s c want b ≡ cutOff (b .inside)
+    hand-cut l = in-turn ∙ handed-cut s c (want - 1) (b .inside) (b .left - 1) active l
+
+    pub hand-one : b .inside .number < roomOf s c (b .inside .start) → handWord s c want b ≡ andThen (recordHere s c (b .inside)) (handWord s c (want - 1) (behind b 1))
+    hand-one l = in-turn ∙ rw (add-one (b .inside .from), add-one (b .inside .number)) (handed-one s c (want - 1) (b .inside) (b .left - 1) active l)
 
 -- no more places are skipped than there are
 pub skipped-le : (stored b z : ℕ) → skipped stored b z ≤ z
@@ -242,7 +265,7 @@ in-room n start width k h l =
 
 module _ (table s : List ℕ) (c : Coding) (room : ℕ) where
   -- a reader goes on
-  readable-on :
+  pub readable-on :
       (w : Inside) (p k : ℕ) → k ≤ p → Readable table s c room w → Readable table s c room (standing w p k)
   readable-on w p k l h = record { subnormals = h .subnormals; width = h .width; values = h .values; multiple = h .multiple; number = l }
 
@@ -285,6 +308,16 @@ module _ (t t′ : Slots) (i : ℕ) (r : Record) (e : t′ ≡ put t i r) where
         in-value = simp length-set (h .in-value);
       }
 
+  pub put-room : {n : ℕ} → Room n t → Room n t′
+  put-room h =
+      rw e record {
+        in-x = simp length-set (h .in-x);
+        in-y = simp length-set (h .in-y);
+        in-z = simp length-set (h .in-z);
+        in-level = simp length-set (h .in-level);
+        in-value = simp length-set (h .in-value);
+      }
+
 pub room-less : {n m : ℕ} (t : Slots) → m ≤ n → Room n t → Room m t
 room-less t l h =
     record {
@@ -305,6 +338,20 @@ module _ (table s : List ℕ) (c : Coding) (room : ℕ) (b r : Bits) (h : Readab
   turn-cut l =
       let a = active-there table s c room b r h word some-active e in
       at-active ∙ hand-cut s r (a .word) (a .some-left) c (limit - i) (omega arith) (a .active) (rw (a .readable .values) at l)
+
+  pub turn-one :
+      {b′ : Bits} {q : Record} → r .inside .number < room → q ≡ recordHere s c (r .inside) → b′ ≡ behind r 1 →
+      handWord s c (limit - i) b ≡ andThen q (handWord s c (limit - (i + 1)) b′)
+  turn-one {b′} {q} l d f =
+      let a = active-there table s c room b r h word some-active e in
+      let n : limit - i - 1 ≡ limit - (i + 1) = omega arith in
+      at-active ∙ rw (d, f, ← n) (hand-one s r (a .word) (a .some-left) c (limit - i) (omega arith) (a .active) (rw (a .readable .values) at l))
+
+pub record-is :
+    (s : List ℕ) (c : Coding) (w : Inside) {o : GlobalCoord} {v : ℕ} → o ≡ globalOf (edgeOf (w .level)) (sideOf (w .level)) (w .origin) (index (w .from)) →
+    v ≡ storedValue s (c .width) (w .start + w .number * c .width) → recordOf o (w .level) v ≡ recordHere s c w
+unfolding recordHere
+record-is s c w e d = λ k. recordOf (e k) (w .level) (d k)
 
 pub run-is : {a b : Inside} {i : ℕ} {x y : Bool} → a ≡ b → x ≡ y → _≡_ {A = Run} (record { inside = a; filled = i; whole = x }) (record { inside = b; filled = i; whole = y })
 run-is {i = i} e d = λ k. record { inside = e k; filled = i; whole = d k }

@@ -4,8 +4,7 @@ use Prim.Native.Nat.{ℕ, zero, suc, _*_, _%_, _≤_, _<_}
 use native.Mathlib.Omega.{arith}
 use lib.Dec.{lit≤, lit<}
 use Rattle.coordinates.specs.Coordinates.{places}
-use Rattle.coordinates.specs.Inner.{Node}
-use Rattle.tree.specs.Active.{sideOf, edgeOf}
+use Rattle.tree.specs.Active.{edgeOf}
 use Rattle.records.specs.Inner.{maskBytes}
 
 pub past-levels : (l : ℕ) → 2 < l → edgeOf l ≡ 0

@@ -2,29 +2,27 @@
 use mathlib.Core.Path.{_≡_, refl, sym, ap, ap₂, _∙_}
 use mathlib.Core.List.{List, [], _∷_, _++_, append-assoc, append-nil}
 use mathlib.Core.Bool.{true, false, true≢false}
-use Prim.Native.Nat.{ℕ, zero, suc, _+_, _-_, _*_, _/_, _%_, _^_, _≤_, _<_, min}
+use Prim.Native.Nat.{ℕ, zero, suc, _+_, _-_, _/_, _%_, _^_, _≤_, _<_}
 use native.Mathlib.Nat.{add-zero, add-suc, zero-add, pow-suc, lt-of-not-le, le-refl}
 use native.Mathlib.Numerals.{add-one, one-add}
 use native.Mathlib.Omega.{arith}
 use lib.Count.{trailingZeros, trailing-le, trailing-of-zero}
-use lib.IntN.{ℤ, pos, _+ℤ_}
 use lib.ListN.{length, set, length-append}
 use lib.Pow.{pow-pos}
-use lib.Dec.{lit≤, lit<}
+use lib.Dec.{lit<}
 use borrow.Author.Tests.{eqb-true, eqb-false, eq-eqb, ne-eqb, le-leb, lt-leb, leb-true}
 use Rattle.masks.specs.Masks.{digit, maskBit}
-use Rattle.masks.proofs.Digits.{digit-shift, digit-past, trailing-zero, trailing-one}
+use Rattle.masks.proofs.Digits.{digit-shift, digit-past, trailing-zero}
 use Rattle.values.specs.declared.Coding.{Coding}
-use Rattle.coordinates.specs.Coordinates.{index, localOf, globalOf}
 use Rattle.coordinates.specs.declared.GlobalCoord.{GlobalCoord}
 use Rattle.coordinates.proofs.Axis.{and-both}
-use Rattle.tree.specs.Active.{Record, sideOf, edgeOf}
+use Rattle.tree.specs.Active.{Record}
 use Rattle.records.specs.Slots.{Slots, slotsOf, put, laid}
 use Rattle.records.specs.Inner.{recordOf, cornerAt, valueAt, runOf, ranged, axisOf, handedRun, roomOf, standing, recordHere, Handed, follow, handOut, handWord}
-use Rattle.records.specs.Inner.{Fills, InWord, Readable, IsRun, isFull, shifted, behind}
+use Rattle.records.specs.Inner.{Fills, InWord, isFull, behind}
 use Rattle.records.specs.declared.Bits.{Bits}
 use Rattle.records.specs.declared.Inside.{Inside}
-use Rattle.records.proofs.Laws.{handed-one, laid-append, active-there, at-active}
+use Rattle.records.proofs.Laws.{handed-one, laid-append}
 
 -- Where x and b make up k ones, b has a one where x has none.
 complement : (q k x b : ℕ) → q < k → x + b ≡ 2 ^ k - 1 → digit x q ≡ false → digit b q ≡ true
@@ -42,12 +40,6 @@ other b = 18446744073709551615 - b
 module _ (b : ℕ) (small : b < 2 ^ 64) where
   pub ones-there : (q : ℕ) → q < trailingZeros 64 (other b) → digit b q ≡ true
   ones-there q h = complement q 64 (other b) b (omega (arith, trailing-le 64 (other b))) (omega arith) (trailing-zero 64 (other b) q h)
-
-  pub one-there : digit b 0 ≡ true → 0 < trailingZeros 64 (other b)
-  unfolding digit
-  one-there d = lt-of-not-le (λ l.
-      let z : trailingZeros 64 (other b) ≡ 0 = omega arith in
-      omega (arith, eqb-true (b / 2 ^ 0 % 2) 1 d, eqb-true (other b / 2 ^ 0 % 2) 1 (rw z at (trailing-one 64 (other b) (omega arith)))))
 
 -- an axis that is neither x nor y
 pub axis-last : (o : GlobalCoord) (n : ℕ) → (n ≡ 0 → ⊥) → (n ≡ 1 → ⊥) → o .2 ≡ axisOf o n
@@ -78,15 +70,6 @@ module _ (s : List ℕ) (c : Coding) (w : Inside) where
     pub laid-run : (n : ℕ) → laid t i (runOf s c w (suc n)) ≡ put (laid t i (runOf s c w n)) (i + n) (recordOf (cornerAt w n) (w .level) (valueAt s c w n))
     unfolding runOf laid
     laid-run n = laid-append t i (runOf s c w n) _ ∙ rw length-run
-
-    pub run-none : t ≡ laid t i (runOf s c w 0)
-    unfolding runOf laid
-    run-none = refl
-
-    pub run-next :
-        (k : ℕ) {u : Slots} {o : GlobalCoord} {v : ℕ} → u ≡ laid t i (runOf s c w k) → o ≡ cornerAt w k → v ≡ valueAt s c w k →
-        put u (i + k) (recordOf o (w .level) v) ≡ laid t i (runOf s c w (k + 1))
-    run-next k e d f = rw add-one ((λ q. put (e q) (i + k) (recordOf (d q) (w .level) (f q))) ∙ sym (laid-run k))
 
     -- slice by slice
     pub laid-ranged :
@@ -140,52 +123,6 @@ pub run-fills :
     (s : List ℕ) (c : Coding) (w : Inside) (n : ℕ) {i : ℕ} {t t′ : Slots} → t′ ≡ laid t i (runOf s c w n) →
     Fills i (handedRun s c w n) t t′ (record { inside = standing w (w .from + n) (w .number + n); filled = i + n; whole = true })
 run-fills s c w n e = record { inside = refl; filled = rw length-run; whole = refl; slots = e }
-
--- A turn of the loop over a word: a run from the next active place on.
-module _ (table s : List ℕ) (c : Coding) (room : ℕ) (b r : Bits) (h : Readable table s c room (b .inside)) (word : InWord s b) (some-active : b .value ≡ 0 → ⊥)
-    (e : r ≡ shifted b (trailingZeros 64 (b .value))) (limit i : ℕ) (wanted : i < limit) (n : ℕ) (run : IsRun r (min (limit - i) (room - r .inside .number)) n) where
-  pub turn-run :
-      {b′ : Bits} → r .inside .number < room → b′ ≡ behind r n →
-      handWord s c (limit - i) b ≡ follow (handedRun s c (r .inside) n) (handWord s c (limit - (i + n)) b′)
-  turn-run l d =
-      let a = active-there table s c room b r h word some-active e in
-      let m : limit - i - n ≡ limit - (i + n) = omega arith in
-      at-active table s c room b r h word some-active e limit i wanted
-      ∙ rw (d, ← m) (word-run s c r (a .word) n (run .active) (limit - i) (omega (arith, run .bounded)) (omega (arith, run .bounded, a .readable .values)))
-
--- Places in a row along z: their corners differ in z alone.
-pub corner-on :
-    (l p k : ℕ) (o : GlobalCoord) → l < 3 → p % 8 + k < 8 → let g = globalOf (edgeOf l) (sideOf l) o (index p) in
-    globalOf (edgeOf l) (sideOf l) o (index (p + k)) ≡ (g .0, g .1, o .2 +ℤ pos (p % edgeOf l * sideOf l + k * sideOf l))
-unfolding globalOf localOf
-corner-on zero p k o h r =
-    let x : (p + k) / 64 ≡ p / 64 = omega arith in
-    let y : (p + k) / 8 % 8 ≡ p / 8 % 8 = omega arith in
-    let z : (p + k) % 8 * 1 ≡ p % 8 * 1 + k * 1 = omega arith in
-    rw (x, y, z)
-corner-on (suc zero) p k o h r =
-    let x : (p + k) / 256 ≡ p / 256 = omega arith in
-    let y : (p + k) / 16 % 16 ≡ p / 16 % 16 = omega arith in
-    let z : (p + k) % 16 * 8 ≡ p % 16 * 8 + k * 8 = omega arith in
-    rw (x, y, z)
-corner-on (suc (suc zero)) p k o h r =
-    let x : (p + k) / 1024 ≡ p / 1024 = omega arith in
-    let y : (p + k) / 32 % 32 ≡ p / 32 % 32 = omega arith in
-    let z : (p + k) % 32 * 128 ≡ p % 32 * 128 + k * 128 = omega arith in
-    rw (x, y, z)
-corner-on (suc (suc (suc l))) p k o h r = absurd (omega arith)
-
-pub corner-next :
-    (l p k : ℕ) (o : GlobalCoord) → l < 3 → p % 8 + k < 8 → {x y z : ℤ} → let g = globalOf (edgeOf l) (sideOf l) o (index p) in
-    x ≡ g .0 → y ≡ g .1 → z ≡ o .2 +ℤ pos (p % edgeOf l * sideOf l + k * sideOf l) → _≡_ {A = GlobalCoord} (x, y, z) (globalOf (edgeOf l) (sideOf l) o (index (p + k)))
-corner-next l p k o h r a b d = (λ q. (a q, b q, d q)) ∙ sym (corner-on l p k o h r)
-
--- and lie in the piece
-pub row-inside : (l p k : ℕ) → l < 3 → p % 8 + k < 8 → (p % edgeOf l * sideOf l + k * sideOf l < edgeOf l * sideOf l) × (2147483648 % (edgeOf l * sideOf l) ≡ 0) × (edgeOf l * sideOf l ≤ 4096)
-row-inside zero p k h r = (omega arith, refl, lit≤ tt)
-row-inside (suc zero) p k h r = (omega arith, refl, lit≤ tt)
-row-inside (suc (suc zero)) p k h r = (omega arith, refl, lit≤ tt)
-row-inside (suc (suc (suc l))) p k h r = absurd (omega arith)
 
 -- Whether a word is full: what it then has, and by which test it is not.
 module _ (b : Bits) (room slot limit : ℕ) where

@@ -1,7 +1,7 @@
 -- Inner matter: only contracts of inner functions cite it, and nothing here has to be believed.
 -- What handing out the records of a piece comes to, place by place, wherever in it a walk stands and whatever its words are.
 -- That for a piece of a grid these are the piece's own records is proved above, in the crate `place` (proofs/Own.antt).
-use Prim.Native.Nat.{ℕ, zero, suc, _+_, _-_, _*_, _/_, _%_, _^_, _≤_, _<_}
+use Prim.Native.Nat.{ℕ, zero, suc, _+_, _-_, _*_, _/_, _^_, _≤_, _<_}
 use mathlib.Core.Path.{_≡_}
 use mathlib.Core.List.{List, [], _∷_, _++_}
 use mathlib.Core.Bool.{Bool, true, false, not, cond, _&&_}
@@ -191,23 +191,30 @@ behind b n = record {
   child = b .child / 2 ^ n;
 }
 
--- n places of a piece, one or more, in a row along z, with values in the file
-pub record InRow (room : ℕ) (w : Inside) (n : ℕ) : Type 0 where
-  pub some : 0 < n
-  pub row : w .from % 8 + n ≤ 8
-  pub places : w .from + n ≤ places (edgeOf (w .level))
-  pub values : w .number + n ≤ room
-
--- a run of n places: active, in a row along z, and no more than m
-pub record IsRun (b : Bits) (m n : ℕ) : Type 0 where
-  pub some : 0 < n
-  pub bounded : n ≤ m
-  pub row : b .inside .from % 8 + n ≤ 8
-  pub active : (q : ℕ) → q < n → digit (b .value) q ≡ true
-
 -- whether a word has 64 active places, and there are slots and values for them
 unfoldable pub isFull : Bits → ℕ → ℕ → ℕ → Bool
 isFull b room slot limit = eqb (b .value) 18446744073709551615 && (leb (slot + 64) limit && leb (b .inside .number + 64) room)
+
+-- the ones of b from bit p on, each where it was
+abbrev pub onesPast : ℕ → ℕ → ℕ
+onesPast b p = b / 2 ^ p * 2 ^ p
+
+-- the number of the next stored value behind p places, k of them active: all are stored, or the active ones
+unfoldable pub numberIn : Inside → ℕ → ℕ → ℕ
+numberIn w p k = when (eqb (w .stored) 0) (w .number + p) (w .number + k)
+
+-- a word behind p places, the next stored value having number k
+abbrev pub past : Bits → ℕ → ℕ → Bits
+past b p k = record { inside = standing (b .inside) (b .inside .from + p) k; left = b .left - p; value = b .value / 2 ^ p; child = b .child / 2 ^ p }
+
+-- a leaf's places, stored all or where active, with values in the file
+pub record InLeaf (room : ℕ) (b : Bits) : Type 0 where
+  pub level : b .inside .level ≡ 0
+  pub stored : b .inside .stored ≤ 1
+  pub values : b .inside .number + b .left ≤ room
+
+unfoldable pub isLeaf : Bits → ℕ → Bool
+isLeaf b room = eqb (b .inside .level) 0 && (leb (b .inside .stored) 1 && leb (b .inside .number + b .left) room)
 
 abbrev pub handWord : List ℕ → Coding → ℕ → Bits → Handed
 handWord s c want b = handOut s c want (b .inside) (b .left)

@@ -1,20 +1,17 @@
 // Document 01, section 7: the records of a piece, from where a walk stands in it, into five lent slices.
 ghost use mathlib.Core.Path.{_≡_};
 ghost use mathlib.Core.Bool.{true};
-ghost use Prim.Native.Nat.{_+_, _-_, _*_, _/_, _%_, _^_, _≤_, _<_, min};
-ghost use lib.IntN.{pos, _+ℤ_};
-ghost use mir.Syntax.{w32};
-ghost use mir.Val.{SFits};
+ghost use Prim.Native.Nat.{_+_, _-_, _*_, _/_, _%_, _^_, _≤_, _<_};
 ghost use lib.ListN.{length};
 ghost use Rattle.coordinates.specs.Coordinates.{places, globalOf, aligned};
 ghost use Rattle.coordinates.specs.Inner.{Divides};
-ghost use Rattle.masks.specs.Masks.{maskBit, digit, countBelow};
+ghost use Rattle.masks.specs.Masks.{digit, countBelow};
 ghost use Rattle.half.specs.Inner.{isTable, isWidth};
-ghost use Rattle.tree.specs.Active.{sideOf, edgeOf, Record};
+ghost use Rattle.tree.specs.Active.{sideOf, edgeOf};
 ghost use lib.Count.{trailingZeros};
-ghost use Rattle.records.specs.Slots.{slotsOf, laid};
-ghost use Rattle.records.specs.Inner.{cornerAt, valueAt, axisOf, ranged, runOf, InRow, IsRun, isFull};
-ghost use Rattle.records.specs.Inner.{Readable, Few, InWord, Fills, passed, shifted, behind, handWord, handOut, Masks, Room, maskBytes, roomOf, isInside, handPiece, skipped};
+ghost use Rattle.records.specs.Slots.{slotsOf, put, laid};
+ghost use Rattle.records.specs.Inner.{recordOf, cornerAt, valueAt, axisOf, ranged, runOf, isFull, standing, onesPast, numberIn, InLeaf, isLeaf};
+ghost use Rattle.records.specs.Inner.{Readable, Few, InWord, Fills, passed, shifted, behind, handWord, handOut, Masks, Room, maskBytes, isInside, handPiece, skipped};
 use coordinates::GlobalCoord;
 use coordinates::Index;
 use values::Coding;
@@ -88,78 +85,29 @@ fn skip(stored: u32, b: u64, z: u32) -> usize
     }
 }
 
-// How many voxels long a level's cubes are.
-fn side_of(level: u32) -> u32
-    requires { ⌜ level < 3 ⌝ }
-    ensures { λ r. ⌜ r ≡ sideOf level ⌝ }
-{
-    if level == 0 {
-        return 1;
-    }
-    if level == 1 {
-        return 8;
-    }
-    128
-}
-
-// How many voxels along z lie before a place in its piece.
-fn row_offset(level: u32, from: u32) -> u32
-    requires { ⌜ level < 3 ⌝ }
-    ensures { λ r. ⌜ r ≡ from % edgeOf level * sideOf level ⌝ }
-{
-    if level == 0 {
-        return from % 8;
-    }
-    if level == 1 {
-        return from % 16 * 8;
-    }
-    from % 32 * 128
-}
-
-// A coordinate n voxels on.
-fn voxels_on(v: i32, n: u32) -> i32
-    requires { ⌜ (n < 4096) × SFits w32 (v +ℤ pos n) ⌝ }
-    ensures { λ r. ⌜ r ≡ v +ℤ pos n ⌝ }
-{
-    v + n as i32
-}
-
-// The records of the next r places, all active and in one row along z, so that their corners differ in z alone.
-fn fill_run(
-    table: &[u32],
-    s: &[u8],
-    c: Coding,
-    room: usize,
-    w: Inside,
-    r: usize,
-    slot: usize,
+// A record into slot i of each slice.
+fn put_record(
+    i: usize,
+    o: GlobalCoord,
+    l: u32,
+    v: u32,
     x: &mut [i32],
     y: &mut [i32],
     z: &mut [i32],
     level: &mut [u32],
     value: &mut [u32],
 )
-    requires { ⌜ Readable (now table) (now s) c room w × InRow room w r × Room (slot + r) (slotsOf (now x) (now y) (now z) (now level) (now value)) ⌝ }
-    ensures { λ u. ⌜ slotsOf (now (x .exit)) (now (y .exit)) (now (z .exit)) (now (level .exit)) (now (value .exit)) ≡ laid (slotsOf (now (x .entry)) (now (y .entry)) (now (z .entry)) (now (level .entry)) (now (value .entry))) slot (runOf (now (s .entry)) c w r) ⌝ }
+    requires { ⌜ Room (i + 1) (slotsOf (now x) (now y) (now z) (now level) (now value)) ⌝ }
+    ensures { λ r. ⌜ slotsOf (now (x .exit)) (now (y .exit)) (now (z .exit)) (now (level .exit)) (now (value .exit)) ≡ put (slotsOf (now (x .entry)) (now (y .entry)) (now (z .entry)) (now (level .entry)) (now (value .entry))) i (recordOf o l v) ⌝ }
 {
-    let l = w.level;
-    let origin = w.origin;
-    let o = corner(l, origin, Index(w.from));
     let ox = o.0;
     let oy = o.1;
-    let oz = origin.2;
-    let before = row_offset(l, w.from);
-    let side = side_of(l);
-    let mut k: usize = 0;
-    while k < r {
-        let i = slot + k;
-        x[i] = ox;
-        y[i] = oy;
-        z[i] = voxels_on(oz, before + k as u32 * side);
-        level[i] = l;
-        value[i] = values::stored_with(table, s, c, w.start, w.number + k);
-        k = k + 1;
-    }
+    let oz = o.2;
+    x[i] = ox;
+    y[i] = oy;
+    z[i] = oz;
+    level[i] = l;
+    value[i] = v;
 }
 
 // One coordinate of a corner.
@@ -278,46 +226,25 @@ fn to_active(b: Bits) -> Bits
     }
 }
 
-// The word behind its next r places, all active.
-fn past_run(b: Bits, r: usize) -> Bits
-    requires { ⌜ Few b × (r ≤ b .left) × (r < 64) ⌝ }
-    ensures { λ u. ⌜ u ≡ behind b r ⌝ }
+// The word behind its next place, which is active.
+fn past_active(b: Bits) -> Bits
+    requires { ⌜ Few b × (0 < b .left) ⌝ }
+    ensures { λ r. ⌜ r ≡ behind b 1 ⌝ }
 {
     let mut inside = b.inside;
-    inside.from = inside.from + r as u32;
-    inside.number = inside.number + r;
+    inside.from = inside.from + 1;
+    inside.number = inside.number + 1;
     Bits {
         inside,
-        left: b.left - r as u32,
-        value: masks::high_bits(b.value, r),
-        child: masks::high_bits(b.child, r),
+        left: b.left - 1,
+        value: b.value / 2,
+        child: b.child / 2,
     }
 }
 
-// The smaller of two numbers.
-fn least(a: usize, b: usize) -> usize
-    ensures { λ r. ⌜ r ≡ min a b ⌝ }
-{
-    if a < b {
-        return a;
-    }
-    b
-}
-
-// How many places are taken as one run: no more than n, all active, and in one row along z. A row has 8, 16 or 32 places, so that no run goes past
-// a multiple of 8. Where a longer run could be taken, the next one goes on with it.
-fn run_length(b: Bits, n: usize) -> usize
-    requires { ⌜ (b .value < 2 ^ 64) × (digit (b .value) 0 ≡ true) × (0 < n) ⌝ }
-    ensures { λ r. ⌜ IsRun b n r ⌝ }
-{
-    let ones = u64::trailing_zeros(0xffff_ffff_ffff_ffff - b.value) as usize;
-    let row = (8 - b.inside.from % 8) as usize;
-    least(least(ones, row), n)
-}
-
-// The records of a word's places into the slots from `slot` on, no further than `limit`, run by run. A value is read only where its number is below
-// `room`, so that it lies in the file.
-fn fill_runs(
+// The records of a word's places, of whatever piece, into the slots from `slot` on, no further than `limit`. A value is read only where its number
+// is below `room`, so that it lies in the file.
+fn fill_any(
     table: &[u32],
     s: &[u8],
     c: Coding,
@@ -335,9 +262,9 @@ fn fill_runs(
     ensures { λ r. ⌜ Fills slot (handWord (now (s .entry)) c (limit - slot) word) (slotsOf (now (x .entry)) (now (y .entry)) (now (z .entry)) (now (level .entry)) (now (value .entry))) (slotsOf (now (x .exit)) (now (y .exit)) (now (z .exit)) (now (level .exit)) (now (value .exit))) r ⌝ }
 {
     let mut b = word;
-    let mut i = slot;
+    let mut at = slot;
     let mut whole = true;
-    while i < limit {
+    while at < limit {
         if b.value == 0 {
             let w = pass(b, b.left);
             b.inside = w;
@@ -349,17 +276,132 @@ fn fill_runs(
             whole = false;
             break;
         }
-        let r = run_length(b, least(limit - i, room - w.number));
-        fill_run(table, s, c, room, w, r, i, x, y, z, level, value);
-        b = past_run(b, r);
-        i = i + r;
+        let v = values::stored_with(table, s, c, w.start, w.number);
+        put_record(
+            at,
+            corner(w.level, w.origin, Index(w.from)),
+            w.level,
+            v,
+            x,
+            y,
+            z,
+            level,
+            value,
+        );
+        b = past_active(b);
+        at = at + 1;
     }
     let inside = b.inside;
     Run {
         inside,
-        filled: i,
+        filled: at,
         whole,
     }
+}
+
+// The ones of a word above its lowest one.
+fn past_lowest(b: u64) -> u64
+    requires { ⌜ (b < 2 ^ 64) × (b ≡ 0 → ⊥) ⌝ }
+    ensures { λ r. ⌜ r ≡ onesPast b (trailingZeros 64 b + 1) ⌝ }
+{
+    b & (b - 1)
+}
+
+// The number of the next stored value behind p places of a leaf, k of them active: all are stored, or the active ones.
+fn number_behind(w: Inside, p: u32, k: usize) -> usize
+    requires { ⌜ (w .number + p ≤ 1024) × (k ≤ p) ⌝ }
+    ensures { λ r. ⌜ r ≡ numberIn w p k ⌝ }
+{
+    if w.stored == 0 {
+        return w.number + p as usize;
+    }
+    w.number + k
+}
+
+// The walk behind these places.
+fn stand(w: Inside, p: u32, k: usize) -> Inside
+    requires { ⌜ (w .number ≤ w .from) × (w .from + p ≤ 512) × (k ≤ p) ⌝ }
+    ensures { λ r. ⌜ r ≡ standing w (w .from + p) (numberIn w p k) ⌝ }
+{
+    let mut v = w;
+    v.from = w.from + p;
+    v.number = number_behind(w, p, k);
+    v
+}
+
+// The same as `fill_any` for a leaf's places, whose values lie in the file: one by one from the lowest bit that is set on. Level, side and step are
+// constants here, and the next one does not wait for the place of the one before.
+fn fill_ones(
+    table: &[u32],
+    s: &[u8],
+    c: Coding,
+    room: usize,
+    word: Bits,
+    slot: usize,
+    limit: usize,
+    x: &mut [i32],
+    y: &mut [i32],
+    z: &mut [i32],
+    level: &mut [u32],
+    value: &mut [u32],
+) -> Run
+    requires { ⌜ Readable (now table) (now s) c room (word .inside) × InWord (now s) word × InLeaf room word × Room limit (slotsOf (now x) (now y) (now z) (now level) (now value)) ⌝ }
+    ensures { λ r. ⌜ Fills slot (handWord (now (s .entry)) c (limit - slot) word) (slotsOf (now (x .entry)) (now (y .entry)) (now (z .entry)) (now (level .entry)) (now (value .entry))) (slotsOf (now (x .exit)) (now (y .exit)) (now (z .exit)) (now (level .exit)) (now (value .exit))) r ⌝ }
+{
+    let w = word.inside;
+    let mut ones = word.value;
+    let mut p: u32 = 0;
+    let mut i = slot;
+    while i < limit {
+        if ones == 0 {
+            return Run {
+                inside: stand(w, word.left, i - slot),
+                filled: i,
+                whole: true,
+            };
+        }
+        let q = u64::trailing_zeros(ones);
+        let v = values::stored_with(table, s, c, w.start, number_behind(w, q, i - slot));
+        put_record(
+            i,
+            corner(0, w.origin, Index(w.from + q)),
+            0,
+            v,
+            x,
+            y,
+            z,
+            level,
+            value,
+        );
+        ones = past_lowest(ones);
+        p = q + 1;
+        i = i + 1;
+    }
+    Run {
+        inside: stand(w, p, i - slot),
+        filled: i,
+        whole: true,
+    }
+}
+
+// Whether a word's places are a leaf's, stored all or where active, with values in the file.
+fn is_leaf(b: Bits, room: usize) -> bool
+    ensures { λ r. ⌜ r ≡ isLeaf b room ⌝ }
+{
+    if b.inside.level != 0 {
+        return false;
+    }
+    if 1 < b.inside.stored {
+        return false;
+    }
+    let left = b.left as usize;
+    if room < left {
+        return false;
+    }
+    if room - left < b.inside.number {
+        return false;
+    }
+    true
 }
 
 // Whether all 64 places of a word are active, with slots and values for them.
@@ -384,7 +426,7 @@ fn is_full(b: Bits, room: usize, slot: usize, limit: usize) -> bool
     true
 }
 
-// The same, with full words apart: in a dense cloud most are.
+// The same for any word. Full ones stand apart, of which a dense cloud has many, and so do leaves, which have most of the places.
 fn fill_word(
     table: &[u32],
     s: &[u8],
@@ -414,7 +456,10 @@ fn fill_word(
             whole: true,
         };
     }
-    fill_runs(table, s, c, room, word, slot, limit, x, y, z, level, value)
+    if is_leaf(word, room) {
+        return fill_ones(table, s, c, room, word, slot, limit, x, y, z, level, value);
+    }
+    fill_any(table, s, c, room, word, slot, limit, x, y, z, level, value)
 }
 
 // The word that the next place is in, from that place on; the masks have n bytes.

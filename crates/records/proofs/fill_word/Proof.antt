@@ -7,6 +7,7 @@ use Rattle.masks.specs.Masks.{digit}
 use Rattle.records.proofs.Levels.{masked}
 use Rattle.records.proofs.Laws.{starts, ends-so, room-less}
 use Rattle.records.proofs.Runs.{full-there, all-ones, run-inside, word-whole, run-fills}
+use Rattle.records.proofs.Ones.{leaf-there}
 use Rattle.records.proofs.fill_word.Statement.{statement}
 use Rattle.records.proofs.fill_word.Tie as tie
 
@@ -51,6 +52,17 @@ fill-word-spec =
     (λ c. search needs)
     (λ c. search needs)
     returns
+    (λ c κs. search needs)
+    (λ c κs.
+    let t = c .before .before .before .before .before in
+    let p = t .before .before .before .before .before .before .before .before .pre in
+    (p .0, p .1, leaf-there _ _ (sym (t .before .is-leaf .ensures) ∙ t .if2 .taken), p .2))
+    (λ c. search needs)
+    (λ c. search needs)
+    (λ c. search needs)
+    (λ c. search needs)
+    (λ c. search needs)
+    (λ c. search needs)
     (λ c κs. search needs)
     (λ c. search needs)
     (λ c. search needs)

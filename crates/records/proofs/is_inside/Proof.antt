@@ -1,5 +1,4 @@
 use borrow.Author.Needs.{needs}
-use mathlib.Core.Path.{_≡_}
 use native.Mathlib.Omega.{arith}
 use Rattle.records.proofs.Laws.{no-value-mask, no-child-mask, no-number, by-origin}
 use Rattle.records.proofs.is_inside.Statement.{statement}

@@ -1,6 +1,5 @@
-use borrow.Author.Needs.{needs}
 use native.Mathlib.Omega.{arith}
-use mathlib.Core.Path.{_≡_, refl}
+use mathlib.Core.Path.{refl}
 use lib.Dec.{lit≤}
 use Rattle.records.proofs.Levels.{past-levels}
 use Rattle.records.proofs.mask_bytes.Statement.{statement}
