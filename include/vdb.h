@@ -90,7 +90,7 @@ uint32_t vdb_grid_entry_numbered(const uint8_t *file, size_t file_len, uint32_t 
 /* The words of an opened grid. */
 enum {
     VDB_OPENED_BACKGROUND,   /* the background, a float's pattern */
-    VDB_OPENED_ACTIVE_COUNT, /* how many records the active list has */
+    VDB_OPENED_ACTIVE_COUNT, /* how many records the active list has; active tiles of the root, cubes of 4096, are none of them */
     VDB_OPENED_LEAF_COUNT,   /* how many leaves there are; they are numbered from 0 */
     VDB_OPENED_MAP,          /* which map the transform is, by the number of its doubles: VDB_SCALE or VDB_SCALE_TRANSLATE */
     VDB_OPENED_DOUBLES_AT,   /* where these stand in the file */

@@ -54,7 +54,7 @@ checks! {
     9 PositionPastEnd "a grid's position lies past the end of the file"
     10 RepeatedGridName "two grids have one name"
     11 NotFound "there is no such grid or metadata entry"
-    12 UnsupportedGridType "the grid's type is not Tree_float_5_4_3"
+    12 UnsupportedGridType "the grid's type is neither Tree_float_5_4_3 nor Tree_float_5_4_3_HalfFloat"
     13 InstanceParent "the grid has a parent, whose tree it shares"
     14 UnsupportedMap "the transform is no scale map and no scale-translate map"
     15 InvalidBufferCount "the tree's buffer count is not 1"

@@ -205,7 +205,7 @@ fn each_refusal_has_its_number_and_status_1() {
         }
     }
     let file = Kept::new("empty", b"");
-    assert!(err(&run(&[&file.0])).contains(": refused 2: "));
+    assert!(err(&run(&[&file.0])).contains(": refused 2: ") && err(&run(&[&file.0])).contains("cut short"));
 }
 
 #[test]
@@ -240,6 +240,27 @@ fn a_name_goes_before_a_number() {
     let absent = run(&[OsStr::new("--records"), OsStr::new("1"), path]);
     assert_eq!(absent.status.code(), Some(1));
     assert!(err(&absent).contains(": refused 11: "));
+    let as_json = out(&run(&[OsStr::new("--json"), OsStr::new("--records"), OsStr::new("1"), path]));
+    assert!(is_json(&as_json) && as_json.contains("\"grid\": \"1\", \"refused\": 11, "));
+}
+
+#[test]
+fn the_range_of_the_values_is_that_of_the_records() {
+    let text = out(&run(&[repository().join("crates/listing/stdin")]));
+    assert_eq!(field(&text, "values"), "1.0 to 1.0");
+    // The narrow band of OpenVDB's sphere, by its list, which another test compares with OpenVDB's.
+    let path = cloud("levelset_active.vdb");
+    let list = out(&run(&[OsStr::new("--records"), OsStr::new("0"), path.as_os_str()]));
+    let values = list.lines().skip(1).map(|line| f32::from_bits(u32::from_str_radix(line.rsplit(' ').next().unwrap(), 16).unwrap()));
+    let mut sorted: Vec<_> = values.collect();
+    sorted.sort_by(f32::total_cmp);
+    assert_eq!(field(&out(&run(&[&path])), "values"), format!("{:?} to {:?}", sorted[0], sorted[sorted.len() - 1]));
+}
+
+#[test]
+fn a_path_reaches_no_terminal_as_it_is() {
+    let said = err(&run(&["/no/such\u{1b}[31mfile"]));
+    assert!(said.contains("\\u{1b}[31mfile") && !said.contains('\u{1b}'), "{said}");
 }
 
 #[test]

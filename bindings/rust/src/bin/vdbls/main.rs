@@ -21,13 +21,15 @@ usage: vdbls [--json] FILE
        vdbls [--json] --records GRID FILE
 
 Without --records: the header, the file's metadata, and each grid with its type,
-transform, background, active records, leaves, box and metadata.
+transform, background, active records, range of their values, leaves, box (from
+its lowest to its highest voxel) and metadata.
 
 With --records: the active list of one grid, in the order of the file. The first
 line is `records N`; each record is a line of x, y, z and level in decimal and the
 value's bits as eight hexadecimal digits. Levels 0, 1, 2 are cubes of 1, 8, 128
-voxels a side; x, y, z is the lowest corner. GRID is the grid's name, or, if no
-grid has that name, its number from 0.
+voxels a side; x, y, z is the lowest corner. Active tiles of the root, cubes of 4096,
+are not listed and not counted. GRID is the grid's name, or, if no grid has that
+name, its number from 0.
 
   --json     the same as JSON
   --help     this text
@@ -78,7 +80,7 @@ fn parse(mut arguments: impl Iterator<Item = OsString>) -> Result<Option<Call>, 
             _ => path = Some(argument),
         }
     }
-    Ok(Some(Call { json, records, path: path.ok_or("which file?")? }))
+    Ok(Some(Call { json, records, path: path.ok_or("no file is named")? }))
 }
 
 /// The grid of this name, else the one with this number.
@@ -91,33 +93,48 @@ fn find<'f>(reader: &VdbReader<'f>, asked: &[u8]) -> Result<Grid<'f>, ParseError
 }
 
 fn run(call: &Call, out: &mut impl Write) -> Result<(), Failure> {
-    let path = call.path.to_string_lossy();
+    let path = shown(&call.path);
     progress::allow(call.json || call.records.is_some());
     let file = bytes::of_file(call.path.as_ref()).map_err(|e| Failure::Input(format!("{path}: {e}")))?;
     let reader = match VdbReader::new(file) {
         Ok(reader) => reader,
-        Err(e) => return refused(call, &path, e, out),
+        Err(e) => return refused(call, &path, e, "", out),
     };
     let Some(asked) = &call.records else {
         return show::file(&path, file, &reader, call.json, out);
     };
     let what = format!("{path}: grid {}", show::quoted(asked.as_encoded_bytes()));
+    let in_json = format!("\"grid\": {}, ", json::text(asked.as_encoded_bytes()));
     progress::opening(file);
     let grid = find(&reader, asked.as_encoded_bytes());
     progress::clear();
     match grid {
         Ok(grid) => records::write(&what, &grid, call.json, out),
-        Err(e) => refused(call, &what, e, out),
+        Err(e) => refused(call, &what, e, &in_json, out),
     }
 }
 
-/// The refusal of all that was asked for; with --json it is also the output.
-fn refused(call: &Call, what: &str, e: ParseError, out: &mut impl Write) -> Result<(), Failure> {
+/// The refusal of all that was asked for; with --json it is also the output, which names the grid if one was asked for.
+fn refused(call: &Call, what: &str, e: ParseError, grid: &str, out: &mut impl Write) -> Result<(), Failure> {
     if call.json {
         let path = json::text(call.path.as_encoded_bytes());
-        writeln!(out, "{{\"file\": {path}, \"refused\": {}, \"why\": {}}}", e.number(), json::text(e.text().as_bytes()))?;
+        writeln!(out, "{{\"file\": {path}, {grid}\"refused\": {}, \"why\": {}}}", e.number(), json::text(words(e).as_bytes()))?;
     }
     Err(Failure::refused(what.to_string(), e))
+}
+
+/// A path without the characters that a terminal would obey.
+fn shown(path: &OsString) -> String {
+    let escape = |c: char| if c.is_control() { c.escape_default().collect() } else { String::from(c) };
+    path.to_string_lossy().chars().map(escape).collect()
+}
+
+/// A refusal in words. This program asks for grids, and for no entry that it has not seen.
+pub fn words(e: ParseError) -> &'static str {
+    match e {
+        ParseError::NotFound => "there is no such grid",
+        e => e.text(),
+    }
 }
 
 /// What can be done about a refusal.
@@ -126,12 +143,13 @@ fn advice(e: ParseError, path: &str) -> Option<String> {
     let convert = format!(
         "vdb_tool of OpenVDB (on Debian in the package libopenvdb-tools) writes the file anew:
     vdb_tool -read '{path}' -write codec=active unpacked.vdb
-It keeps the grids, but turns their order round and leaves out the file's own metadata."
+It keeps the grids' values, transforms and metadata, sorts them by falling name and leaves out the file's own metadata."
     );
     match e {
         ParseError::PackedGrid => Some(format!("OpenVDB packs values with Blosc unless it is told otherwise. {convert}")),
         ParseError::NoGridOffsets => Some(convert),
         ParseError::NotFound => Some(format!("`vdbls '{path}'` lists the grids.")),
+        ParseError::PastEnd | ParseError::PositionPastEnd => Some("The file may have been cut short, or is no OpenVDB file.".into()),
         _ => None,
     }
 }
@@ -145,7 +163,7 @@ fn report(failure: Failure, path: &str) -> (String, u8) {
         Failure::Usage(what) => (format!("vdbls: {what}; `vdbls --help` tells more\n"), 2),
         Failure::Input(what) => (format!("vdbls: {what}\n"), 2),
         Failure::Refused(refusals) => {
-            let line = |(what, e): &(String, ParseError)| format!("vdbls: {what}: refused {}: {}\n", e.number(), e.text());
+            let line = |(what, e): &(String, ParseError)| format!("vdbls: {what}: refused {}: {}\n", e.number(), words(*e));
             let advised: BTreeSet<_> = refusals.iter().filter_map(|(_, e)| advice(*e, path)).collect();
             let said: String = refusals.iter().map(line).chain(advised.iter().map(|advice| format!("{advice}\n"))).collect();
             (said, 1)
@@ -158,7 +176,7 @@ fn main() -> ExitCode {
     let (answer, path) = match parse(std::env::args_os().skip(1)) {
         Err(what) => (Err(Failure::Usage(what)), String::new()),
         Ok(None) => (out.write_all(HELP.as_bytes()).map_err(Failure::from), String::new()),
-        Ok(Some(call)) => (run(&call, &mut out), call.path.to_string_lossy().into_owned()),
+        Ok(Some(call)) => (run(&call, &mut out), shown(&call.path)),
     };
     // What was found before a refusal is written before the refusal is reported.
     let written = out.flush().map_err(Failure::from);

@@ -1,7 +1,7 @@
 //! A whole file: its header, its metadata, its grids.
 
 use crate::survey::Survey;
-use crate::{json, progress, Failure};
+use crate::{json, progress, words, Failure};
 use std::collections::HashSet;
 use std::io::{self, Write};
 use wuraiko::{Compression, Grid, GridDescriptor, Map, Metadata, MetadataValue, ParseError, VdbReader};
@@ -22,7 +22,7 @@ pub fn quoted(bytes: &[u8]) -> String {
 }
 
 /// A number with a comma before each three digits.
-fn grouped(n: u64) -> String {
+pub fn grouped(n: u64) -> String {
     let digits = n.to_string();
     let mut text = String::new();
     for (i, digit) in digits.chars().enumerate() {
@@ -176,13 +176,16 @@ fn text_grid(n: u32, descriptor: &GridDescriptor, found: &Result<Found, ParseErr
     }
     writeln!(out, "  stored      {}", stored(descriptor))?;
     match found {
-        Err(e) => writeln!(out, "  refused     {}: {}", e.number(), e.text())?,
+        Err(e) => writeln!(out, "  refused     {}: {}", e.number(), words(*e))?,
         Ok(Found { grid, survey }) => {
             let [voxels, eights, big] = survey.levels.map(grouped);
             writeln!(out, "  transform   {}", text_map(&grid.transform))?;
             writeln!(out, "  background  {:?} ({:08x})", grid.background(), grid.background().to_bits())?;
             writeln!(out, "  records     {}: {voxels} of side 1, {eights} of side 8, {big} of side 128", grouped(grid.active_count()))?;
             writeln!(out, "  voxels      {} active", grouped(survey.voxels()))?;
+            if let Some((least, most)) = survey.values {
+                writeln!(out, "  values      {least:?} to {most:?}")?;
+            }
             writeln!(out, "  leaves      {}", grouped(grid.leaf_count()))?;
             match survey.corners {
                 None => writeln!(out, "  box         empty")?,
@@ -243,13 +246,14 @@ fn json_grid(descriptor: &GridDescriptor, found: &Result<Found, ParseError>, out
     write!(out, ", \"parent\": {}, \"flags\": {}", json::text(descriptor.instance_parent), descriptor.compression.bits())?;
     writeln!(out, ", \"half\": {},", descriptor.meta_data.is_half_float())?;
     match found {
-        Err(e) => writeln!(out, "   \"refused\": {}, \"why\": {},", e.number(), json::text(e.text().as_bytes()))?,
+        Err(e) => writeln!(out, "   \"refused\": {}, \"why\": {},", e.number(), json::text(words(*e).as_bytes()))?,
         Ok(Found { grid, survey }) => {
             let background = grid.background();
             write!(out, "   \"transform\": {}, \"background\": {}", json_map(&grid.transform), json::float(background))?;
             writeln!(out, ", \"background_bits\": \"{:08x}\",", background.to_bits())?;
             write!(out, "   \"records\": {}, \"levels\": {:?}", grid.active_count(), survey.levels)?;
-            write!(out, ", \"voxels\": {}, \"leaves\": {}, \"box\": ", survey.voxels(), grid.leaf_count())?;
+            let values = survey.values.map_or("null".into(), |(least, most)| format!("[{}, {}]", json::float(least), json::float(most)));
+            write!(out, ", \"voxels\": {}, \"values\": {values}, \"leaves\": {}, \"box\": ", survey.voxels(), grid.leaf_count())?;
             match survey.corners {
                 None => writeln!(out, "null,")?,
                 Some((low, high)) => writeln!(out, "[{}, {}],", json::corner(low), json::corner(high))?,

@@ -4,12 +4,14 @@ use crate::records::for_each;
 use crate::Failure;
 use wuraiko::{Grid, VdbLevel};
 
-/// The records by level, and the box around all their voxels.
+/// The records by level, the box around all their voxels, and the range of their values.
 #[derive(Default)]
 pub struct Survey {
     pub levels: [u64; 3],
     /// The lowest and the highest voxel; none for an empty list.
     pub corners: Option<([i32; 3], [i32; 3])>,
+    /// The lowest and the highest value that is a number; none where no value is.
+    pub values: Option<(f32, f32)>,
 }
 
 impl Survey {
@@ -23,6 +25,11 @@ impl Survey {
             for axis in 0..3 {
                 low[axis] = low[axis].min(record.corner[axis]);
                 high[axis] = high[axis].max(top[axis]);
+            }
+            let value = f32::from_bits(record.value);
+            if !value.is_nan() {
+                let (least, most) = survey.values.get_or_insert((value, value));
+                (*least, *most) = (least.min(value), most.max(value));
             }
             if let Some(count) = survey.levels.get_mut(record.level as usize) {
                 *count += 1;
