@@ -40,20 +40,29 @@ static uint64_t by_iterator(const FloatGrid& grid, Step step)
     return total;
 }
 
-// The same leaf by leaf, and only the tiles by the tree's iterator.
-static uint64_t by_leaves(const FloatGrid& grid)
+// The tiles, by the tree's iterator.
+static uint64_t tiles(const FloatGrid& grid)
 {
     uint64_t total = 0;
-    for (auto leaf = grid.tree().cbeginLeaf(); leaf; ++leaf)
-        for (auto i = leaf->cbeginValueOn(); i; ++i) {
-            const openvdb::Coord at = i.getCoord();
-            total += plain(at.x(), at.y(), at.z(), 0, pattern(*i));
-        }
     auto tile = grid.tree().cbeginValueOn();
     tile.setMaxDepth(FloatGrid::TreeType::ValueOnCIter::LEAF_DEPTH - 1);
     for (; tile; ++tile) {
         const openvdb::Coord at = tile.getCoord();
         total += plain(at.x(), at.y(), at.z(), uint32_t(tile.getLevel()), pattern(*tile));
+    }
+    return total;
+}
+
+// The same leaf by leaf, through the leaf's mask: a leaf's own iterator takes a tenth longer, and with -O3 longer than with -O2.
+static uint64_t by_leaves(const FloatGrid& grid)
+{
+    uint64_t total = tiles(grid);
+    for (auto leaf = grid.tree().cbeginLeaf(); leaf; ++leaf) {
+        const float* values = leaf->buffer().data();
+        for (auto i = leaf->valueMask().beginOn(); i; ++i) {
+            const openvdb::Coord at = leaf->offsetToGlobalCoord(i.pos());
+            total += plain(at.x(), at.y(), at.z(), 0, pattern(values[i.pos()]));
+        }
     }
     return total;
 }

@@ -25,6 +25,14 @@ class Figures:
     def ns_a_record(self, cloud, name):
         return self.ms(cloud, name) * 1e6 / self.number(cloud, 'records')
 
+    def ours_from_file(self, cloud):
+        """Opening, walking and adding up, by the faster of two ways: with the file read, and with the file mapped."""
+        return min(self.ms(cloud, way) for way in ('whole_read', 'whole_mapped'))
+
+    def in_slots(self, cloud):
+        """Opening and walking from memory: every record stood in a slot once, and nobody added it up."""
+        return self.ms(cloud, 'open', 'walk_4096')
+
     def openvdb(self, cloud):
         """Reading, and visiting the active values by the faster of the two ways."""
         return min(self.ms(cloud, 'openvdb_read', way) for way in ('openvdb_iterate', 'openvdb_by_leaves'))
@@ -73,9 +81,11 @@ def name_of(cloud):
 
 
 def opening(f):
-    head = ['Cloud', 'bytes', 'leaves', 'records', 'memcpy, ms', 'opening, ms', 'least, ms', 'opening / memcpy', 'least / memcpy']
+    head = ['Cloud', 'bytes', 'leaves', 'records', 'memcpy, ms', 'opening, ms', 'least, ms', 'opening / memcpy', 'least / memcpy',
+            'opening, huge pages, ms', 'opening / memcpy, both in huge pages']
     return head, [[name_of(c), f.number(c, 'bytes'), f.number(c, 'leaves'), f.number(c, 'records'), f.ms(c, 'memcpy'), f.ms(c, 'open'),
-                   f.ms(c, 'least'), f.ms(c, 'open') / f.ms(c, 'memcpy'), over(f.ms(c, 'least'), f.ms(c, 'memcpy'))] for c in f.clouds]
+                   f.ms(c, 'least'), f.ms(c, 'open') / f.ms(c, 'memcpy'), over(f.ms(c, 'least'), f.ms(c, 'memcpy')),
+                   f.ms(c, 'open_huge'), f.ms(c, 'open_huge') / f.ms(c, 'memcpy_huge')] for c in f.clouds]
 
 
 def walking(f):
@@ -88,11 +98,11 @@ def walking(f):
 
 
 def readers(f):
-    head = ['ms', 'ours', 'with the file read', 'OpenVDB: read', 'iterator', 'leaf by leaf', 'Rust: read', 'iterator', 'OpenVDB / ours, file read',
-            'Rust / ours']
-    return head, [[name_of(c), f.ms(c, 'whole'), f.ms(c, 'whole_read'), f.ms(c, 'openvdb_read'), f.ms(c, 'openvdb_iterate'),
-                   f.ms(c, 'openvdb_by_leaves'), f.ms(c, 'rust_read'), f.ms(c, 'rust_iterate'), over(f.openvdb(c), f.ms(c, 'whole_read')),
-                   over(f.rust(c), f.ms(c, 'whole'))] for c in f.clouds]
+    head = ['ms', 'ours', 'with the file read', 'with the file mapped', 'OpenVDB: read', 'iterator', 'leaf by leaf', 'Rust: read', 'iterator',
+            'OpenVDB / ours, both from the file', 'Rust / ours, both from memory']
+    names = ('whole', 'whole_read', 'whole_mapped', 'openvdb_read', 'openvdb_iterate', 'openvdb_by_leaves', 'rust_read', 'rust_iterate')
+    return head, [[name_of(c)] + [f.ms(c, name) for name in names] + [over(f.openvdb(c), f.ours_from_file(c)), over(f.rust(c), f.ms(c, 'whole'))]
+                  for c in f.clouds]
 
 
 def leaves(f):
@@ -141,8 +151,10 @@ def targets(f):
     return ['Target', 'limit'] + [f'{NAMES[kind]}, {NAMES[width]}' for kind, width in KINDS], [
         first,
         bare('for comparison: the least that opening can cost / memcpy', lambda c: over(f.ms(c, 'least'), f.ms(c, 'memcpy'))),
-        row('OpenVDB / ours, both with the file read', 20, lambda c: over(f.openvdb(c), f.ms(c, 'whole_read')), True),
-        row('Rust / ours, both from memory', 20, lambda c: over(f.rust(c), f.ms(c, 'whole')), True),
+        row('OpenVDB / ours, both from the file, records added up', 20, lambda c: over(f.openvdb(c), f.ours_from_file(c)), True),
+        row('OpenVDB / ours from memory, records in slots, not added up', 20, lambda c: over(f.openvdb(c), f.in_slots(c)), True),
+        row('Rust / ours, both from memory, records added up', 20, lambda c: over(f.rust(c), f.ms(c, 'whole')), True),
+        row('Rust / ours, both from memory, records in slots, not added up', 20, lambda c: over(f.rust(c), f.in_slots(c)), True),
         bare('for comparison: OpenVDB / the plain loop alone', lambda c: over(f.openvdb(c), f.ms(c, 'loop_4096'))),
         bare('for comparison: Rust / the plain loop alone', lambda c: over(f.rust(c), f.ms(c, 'loop_4096'))),
         row('a record / the plain loop, 4,096 slots', 3, lambda c: f.ms(c, 'walk_4096') / f.ms(c, 'loop_4096')),
