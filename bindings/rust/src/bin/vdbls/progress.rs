@@ -9,23 +9,9 @@ use std::time::{Duration, Instant};
 static ALLOWED: AtomicBool = AtomicBool::new(false);
 static SHOWN: AtomicBool = AtomicBool::new(false);
 
-/// Lets the line be shown on a terminal. Where the output is long, or parts of lines, it must not reach a terminal: neither by itself nor through a
-/// pipe, whose reader may show it there.
+/// Lets the line be shown on a terminal; where the output is long, or parts of lines, not beside output on a terminal.
 pub fn allow(long_output: bool) {
-    ALLOWED.store(stderr().is_terminal() && !(long_output && (stdout().is_terminal() || piped())), Relaxed);
-}
-
-/// Whether another program reads the output. Where that cannot be told, it may be so.
-#[cfg(unix)]
-fn piped() -> bool {
-    use std::os::{fd::AsFd, unix::fs::FileTypeExt};
-    let kind = || std::fs::File::from(stdout().as_fd().try_clone_to_owned()?).metadata();
-    kind().map_or(true, |found| found.file_type().is_fifo() || found.file_type().is_socket())
-}
-
-#[cfg(not(unix))]
-fn piped() -> bool {
-    true
+    ALLOWED.store(stderr().is_terminal() && !(long_output && stdout().is_terminal()), Relaxed);
 }
 
 /// Shows a line in place of the last one. That it cannot be written is no failure.
