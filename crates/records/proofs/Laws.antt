@@ -194,6 +194,16 @@ module _ (s : List ℕ) (b : Bits) (word : InWord s b) where
       let k : b .left - b .left ≡ 0 = omega arith in
       hand-past c want (b .left) h (omega arith) (λ q l. rw e (digit-past 0 0 q (omega arith) (omega arith))) ∙ rw k
 
+  -- behind n places
+  pub word-past : (n k : ℕ) → n ≤ b .left → InWord s (past b n k)
+  word-past n k l =
+      record {
+        word = omega (arith, word .word);
+        places = omega (arith, word .places);
+        value-bits = bits-past n l (word .value-bits);
+        child-bits = bits-past n l (word .child-bits);
+      }
+
   pub value-small : b .value < 2 ^ 64
   value-small = lt-of-lt-of-le (word .value-bits .below) (pow-mono (word .word))
 
@@ -206,31 +216,14 @@ module _ (s : List ℕ) (b : Bits) (word : InWord s b) where
 
     pub word-active : InWord s (shifted b gap) × (maskBit s (b .inside .value) (b .inside .from + gap) ≡ true)
     word-active =
-        let l = gap-inside in (
-          record {
-            word = omega (arith, word .word);
-            places = omega (arith, word .places);
-            value-bits = bits-past gap (omega arith) (word .value-bits);
-            child-bits = bits-past gap (omega arith) (word .child-bits);
-          },
-          sym (word .value-bits .bits gap l) ∙ trailing-one 64 (b .value) (trailing-lt 64 (b .value) value-small some-active),
-        )
+        let l = gap-inside in
+        (word-past gap _ (omega arith), sym (word .value-bits .bits gap l) ∙ trailing-one 64 (b .value) (trailing-lt 64 (b .value) value-small some-active))
 
     pub hand-active : (c : Coding) (want : ℕ) → 0 < want → handWord s c want b ≡ handWord s c want (shifted b gap)
     hand-active c want h =
         let l = gap-inside in
         let n : suc (want - 1) ≡ want = omega arith in
         hand-past c want gap h (omega arith) (λ q i. trailing-zero 64 (b .value) q i) ∙ ap (λ (m : ℕ). handWord s c m (shifted b gap)) n
-
-  -- behind n places
-  pub word-past : (n k : ℕ) → n ≤ b .left → InWord s (past b n k)
-  word-past n k l =
-      record {
-        word = omega (arith, word .word);
-        places = omega (arith, word .places);
-        value-bits = bits-past n l (word .value-bits);
-        child-bits = bits-past n l (word .child-bits);
-      }
 
   module _ (some-left : 0 < b .left) (c : Coding) (want : ℕ) (wanted : 0 < want) (active : maskBit s (b .inside .value) (b .inside .from) ≡ true) where
     in-turn : handWord s c want b ≡ handOut s c (suc (want - 1)) (b .inside) (suc (b .left - 1))

@@ -175,21 +175,20 @@ pub record InWord (s : List ℕ) (b : Bits) : Type 0 where
   pub value-bits : AreBits (maskBit s (b .inside .value)) (b .inside .from) (b .left) (b .value)
   pub child-bits : AreBits (maskBit s (b .inside .child)) (b .inside .from) (b .left) (b .child)
 
--- behind the next z places, none of which is active
-abbrev pub passed : Bits → ℕ → Inside
-passed b z = standing (b .inside) (b .inside .from + z) (b .inside .number + skipped (b .inside .stored) (b .child) z)
+-- a word behind p places, the next stored value having number k
+abbrev pub past : Bits → ℕ → ℕ → Bits
+past b p k = record { inside = standing (b .inside) (b .inside .from + p) k; left = b .left - p; value = b .value / 2 ^ p; child = b .child / 2 ^ p }
 
+-- behind the next z places, none of which is active
 abbrev pub shifted : Bits → ℕ → Bits
-shifted b z = record { inside = passed b z; left = b .left - z; value = b .value / 2 ^ z; child = b .child / 2 ^ z }
+shifted b z = past b z (b .inside .number + skipped (b .inside .stored) (b .child) z)
+
+abbrev pub passed : Bits → ℕ → Inside
+passed b z = shifted b z .inside
 
 -- behind the next n places, all active
 abbrev pub behind : Bits → ℕ → Bits
-behind b n = record {
-  inside = standing (b .inside) (b .inside .from + n) (b .inside .number + n);
-  left = b .left - n;
-  value = b .value / 2 ^ n;
-  child = b .child / 2 ^ n;
-}
+behind b n = past b n (b .inside .number + n)
 
 -- whether a word has 64 active places, and there are slots and values for them
 unfoldable pub isFull : Bits → ℕ → ℕ → ℕ → Bool
@@ -202,10 +201,6 @@ onesPast b p = b / 2 ^ p * 2 ^ p
 -- the number of the next stored value behind p places, k of them active: all are stored, or the active ones
 unfoldable pub numberIn : Inside → ℕ → ℕ → ℕ
 numberIn w p k = when (eqb (w .stored) 0) (w .number + p) (w .number + k)
-
--- a word behind p places, the next stored value having number k
-abbrev pub past : Bits → ℕ → ℕ → Bits
-past b p k = record { inside = standing (b .inside) (b .inside .from + p) k; left = b .left - p; value = b .value / 2 ^ p; child = b .child / 2 ^ p }
 
 -- a leaf's places, stored all or where active, with values in the file
 pub record InLeaf (room : ℕ) (b : Bits) : Type 0 where
