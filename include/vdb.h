@@ -1,5 +1,5 @@
 /*
- * Wuraiko: a proved reader of OpenVDB clouds, for C and C++. Link libvdb.a.
+ * Wuraiko: a proved reader of OpenVDB clouds, for C and C++. Link libvdb.a, which is for x86-64.
  *
  * Float grids of file versions 220 to 224, trees 5-4-3 of 32-bit floats or halves, values stored unpacked.
  *
@@ -55,7 +55,7 @@ enum {
     VDB_GRID_BLOCK_POSITION,
     VDB_GRID_END_POSITION,
     VDB_GRID_FLAGS,          /* 0x1 and 0x4: packed; 0x2: only active values are stored */
-    VDB_GRID_HALF,           /* the metadata entry is_saved_as_half_float: 2 where it is true, 1 where false, 0 where there is none */
+    VDB_GRID_HALF,           /* the metadata entry is_saved_as_half_float: 2 where it is true, 1 where false, 0 where there is none or its kind is another */
     VDB_GRID_METADATA,       /* where the grid's metadata starts, and where what follows it starts */
     VDB_GRID_TREE,
     VDB_GRID_WORDS
@@ -108,7 +108,7 @@ enum { VDB_SCALE = 15, VDB_SCALE_TRANSLATE = 18 };
  * A place of a walk, as words for the caller to keep: in memory, or in a file, whose reader then goes on with the walk. It holds all that the walk
  * needs and goes with the bytes that its grid was opened from. Its words mean nothing to the caller.
  */
-enum { VDB_PLACE_WORDS = 32 };
+enum { VDB_PLACE_WORDS = 35 };
 
 /* Opens the grid of this name, or with this number from 0: all of it is checked. `place` is then the walk's place before its first record. */
 uint32_t vdb_open_grid_named(const uint8_t *file, size_t file_len, const uint8_t *name, size_t name_len, uint64_t out[VDB_OPENED_WORDS],
@@ -126,8 +126,8 @@ enum { VDB_FILLED, VDB_LEFT, VDB_WALK_COUNTS };
  * float's pattern. Slots past the filled ones keep their content. `place` is then the place behind these records.
  *
  * From the place of an opened grid on, each call given the place that the last one left, the calls hand out the whole active list, without gap or
- * repeat, and none is refused. Any other words are safe too: they give some records of these bytes, or 22. A word of a smaller field counts by its low
- * 32 bits.
+ * repeat, and none is refused. Any other words are safe too: they give some records of these bytes, or 22. Where records are left and slots are lent, a
+ * call that returns 0 fills one slot at least, and as many fewer are left. A word of a smaller field counts by its low 32 bits.
  */
 uint32_t vdb_walk(const uint8_t *file, size_t file_len, uint64_t place[VDB_PLACE_WORDS], int32_t *x, size_t x_len, int32_t *y, size_t y_len, int32_t *z,
                   size_t z_len, uint32_t *level, size_t level_len, uint32_t *value, size_t value_len, uint64_t counts[VDB_WALK_COUNTS]);

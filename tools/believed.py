@@ -21,10 +21,10 @@ ROOT = pathlib.Path(__file__).resolve().parent.parent
 
 # The public calls: of these, `requires` and `ensures` are looked at.
 CALLS = [
-    'archive::open_file', 'archive::grid_named', 'archive::grid_numbered',
-    'archive::file_entry', 'archive::grid_entry_named', 'archive::grid_entry_numbered',
+    'answers::open_file', 'answers::grid_named', 'answers::grid_numbered',
+    'answers::file_entry', 'answers::grid_entry_named', 'answers::grid_entry_numbered',
     'grid::open_grid_named', 'grid::open_grid_numbered',
-    'grid::fill_leaf_named', 'grid::fill_leaf_numbered',
+    'leaves::fill_leaf_named', 'leaves::fill_leaf_numbered',
     'walk::walk', 'rows::walk_records',
     'vdb::vdb_open_file', 'vdb::vdb_grid_named', 'vdb::vdb_grid_numbered',
     'vdb::vdb_file_entry', 'vdb::vdb_grid_entry_named', 'vdb::vdb_grid_entry_numbered',
@@ -38,7 +38,8 @@ CALLS = [
 # Theorems that a reader is pointed to, by crate and name: of these, the statement is looked at, with the
 # parameters of the sections that it stands in. Files proofs/FUNCTION/Proof.antt are not searched.
 THEOREMS = [
-    'grid::listed', 'grid::covered', 'grid::apart', 'walk::demand3', 'rows::demand3-rows', 'vdb::walks', 'cases::cases',
+    'grid::listed', 'grid::covered', 'grid::apart', 'walk::demand3', 'walk::place-own', 'walk::row-22', 'rows::demand3-rows',
+    'vdb::walks', 'vdb::walks-at-0', 'cases::cases',
 ]
 
 # crate::name of definitions that are reached but not followed, each with its reason.
@@ -48,6 +49,7 @@ OPAQUE = {
 
 # crate::name of definitions that --check lets stand where they are, each with its reason.
 ALLOWED = {
+    'grid::startOf': 'what placeAfter, a name for a place, is made of: it stands beside it',
 }
 
 NAME = r'(?:[^\s(){}.;,@"«»]+|«[^»]+»)'

@@ -180,7 +180,18 @@ static void walk(const uint64_t fresh[VDB_PLACE_WORDS], uint64_t active)
     } while (active > 0);
 }
 
-/* A place with one word changed is safe: some records, or 22, and then nothing is changed. */
+/* The number of records left at a place, which a call without slots tells and which changes nothing. */
+static uint64_t left_at(uint64_t place[VDB_PLACE_WORDS])
+{
+    uint64_t counts[VDB_WALK_COUNTS];
+    int32_t none[1];
+    uint32_t nothing[1];
+    if (vdb_walk(file, file_len, place, none, 0, none, 0, none, 0, nothing, 0, nothing, 0, counts) != 0) stop("a walk without slots is refused");
+    if (counts[VDB_FILLED] != 0) stop("a walk fills more slots than there are");
+    return counts[VDB_LEFT];
+}
+
+/* A place with one word changed is safe: some records, so many fewer left and one at least where any are, or 22, and then nothing is changed. */
 static void walk_from_anywhere(const uint64_t fresh[VDB_PLACE_WORDS])
 {
     static const uint64_t strange[] = {0, 1, 2, 0x7fffffff, 0x80000000, 0xffffffff, 0x100000000, UINT64_MAX};
@@ -188,12 +199,16 @@ static void walk_from_anywhere(const uint64_t fresh[VDB_PLACE_WORDS])
         uint64_t place[VDB_PLACE_WORDS], before[VDB_PLACE_WORDS], counts[VDB_WALK_COUNTS] = {5, 5};
         int32_t x[3] = {5, 5, 5}, y[3] = {5, 5, 5}, z[3] = {5, 5, 5};
         uint32_t level[3] = {5, 5, 5}, value[3] = {5, 5, 5}, k;
+        uint64_t left;
         memcpy(place, fresh, sizeof place);
         place[i / 8] = strange[i % 8];
+        left = left_at(place);
         memcpy(before, place, sizeof place);
         k = vdb_walk(file, file_len, place, x, 3, y, 3, z, 3, level, 3, value, 3, counts);
         if (k != 0 && k != 22) stop("a walk is refused with another number than 22");
         if (k == 0 && counts[VDB_FILLED] > 3) stop("a walk fills more slots than there are");
+        if (k == 0 && (counts[VDB_FILLED] > left || (counts[VDB_FILLED] == 0 && left > 0))) stop("a walk fills more slots than records are left, or none");
+        if (k == 0 && (counts[VDB_LEFT] != left - counts[VDB_FILLED] || left_at(place) != counts[VDB_LEFT])) stop("a walk leaves another number of records");
         for (uint64_t j = k == 0 ? counts[VDB_FILLED] : 0; j < 3; j++)
             if (x[j] != 5 || y[j] != 5 || z[j] != 5 || level[j] != 5 || value[j] != 5) stop("a walk changes a slot that it does not fill");
         if (k == 22 && (counts[0] != 5 || counts[1] != 5 || memcmp(place, before, sizeof place) != 0)) stop("a refused walk changes something");

@@ -3,15 +3,19 @@
 Each file stands with the refusal that section 8 gives it when it is opened, found by hand, 0 where there is none; the reader
 of document.py must agree.
 """
+import os
 import struct
+import sys
 
 from calls import refusal
 from document import File
 from program import joined
 
-LENGTH = 9637
+sys.path.append(os.path.join(os.path.dirname(os.path.abspath(__file__)), '..'))
+from case_a import A, AT, BLOCK, FIELD, GRID, LENGTH  # noqa: E402
+
 BIG = 2 ** 32 - 1
-TREE = 'Tree_float_5_4_3'
+NAME, TREE = (FIELD[name].decode() for name in ('name', 'type'))
 
 
 def u32(*numbers):
@@ -24,6 +28,11 @@ def u64(*numbers):
 
 # Parts of files: lists of bytes and text
 
+def fields(*names):
+    """Fields of case A."""
+    return [FIELD[name] for name in names]
+
+
 def string(text):
     return [u32(len(text)), text]
 
@@ -34,7 +43,7 @@ def entry(name, kind, value):
 
 def head(version):
     """What stands before the identity, and a byte more under 222."""
-    return [b' ', 'BDV', bytes(4), u32(version), u32(10), u32(1), b'\x01'] + ([b'\0'] if version < 222 else [])
+    return [FIELD['magic'], u32(version)] + fields('library number, major', 'library number, minor', 'offsets byte') + ([b'\0'] if version < 222 else [])
 
 
 def descriptor(name, kind, *positions):
@@ -49,19 +58,28 @@ def case_a(q):
     """A up to its tree, field by field."""
     q.new(LENGTH)
     q.comment('magic, version 224, library 10 1, offsets byte')
-    q.put(0, *head(224))
+    q.put(AT['magic'], *head(224))
     q.comment('the identity, whose bytes are free: a descriptor with empty names and the positions 118, 0 and 300')
-    q.put(21, *IDENTITY)
+    q.put(AT['identity'], *IDENTITY)
     q.comment('no metadata, one grid')
-    q.put(57, u32(0), u32(1))
+    q.put(AT['metadata of the file, count'], *fields('metadata of the file, count', 'grid count'))
     q.comment('its name, type and parent')
-    q.put(65, *descriptor('d', TREE))
+    q.put(AT['name, length'], *descriptor(NAME, TREE))
     q.comment('its positions')
-    q.quad(94, 118)
-    q.quad(102, 9568)
-    q.quad(110, LENGTH)
+    q.quad(AT['grid position'], GRID)
+    q.quad(AT['block position'], BLOCK)
+    q.quad(AT['end position'], LENGTH)
     q.comment('its flags; no metadata')
-    q.word(118, 2)
+    q.word(AT['flags'], int.from_bytes(FIELD['flags'], 'little'))
+    must_be_a(q, AT['map, length'], ['identity'])
+
+
+def must_be_a(q, end, free):
+    """Up to a position the file is case A, but for these fields, which it leaves free."""
+    made = bytearray(q.file())
+    for name in free:
+        made[AT[name]:AT[name] + len(FIELD[name])] = FIELD[name]
+    assert made[:end] == A[:end]
 
 
 def old(q):
@@ -69,7 +87,7 @@ def old(q):
     q.new(LENGTH)
     q.put(0, *head(220))
     q.put(22, *IDENTITY)
-    q.put(58, u32(0), u32(1), *descriptor('d', TREE, 118, 9568, LENGTH))
+    q.put(58, *fields('metadata of the file, count', 'grid count'), *descriptor(NAME, TREE, GRID, BLOCK, LENGTH))
     q.put(119, u32(2))
 
 
@@ -101,7 +119,7 @@ def entries(q):
     """Entries of each kind, for the file at 57 and for its grid at 4004."""
     q.new(LENGTH)
     q.put(0, *head(224))
-    put_in_turn(q, 57, [[u32(12)]] + EACH_KIND + [[u32(1)], descriptor('d', TREE, 4000, 9568, LENGTH)])
+    put_in_turn(q, 57, [[u32(12)]] + EACH_KIND + [[u32(1)], descriptor(NAME, TREE, 4000, BLOCK, LENGTH)])
     put_in_turn(q, 4000, [[u32(2)], [u32(12)]] + EACH_KIND)
 
 

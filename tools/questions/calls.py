@@ -5,7 +5,7 @@ from program import Program, changes, in_quotes, spelt, summed
 
 SLOTS = 1600
 # The number of words of a walk's place, each of which is set in turn.
-WORDS = 32
+WORDS = 35
 
 
 def answered(call):

@@ -1,4 +1,7 @@
-"""A reader by document 01, section by section, and by nothing else. It says what crates/questions must answer."""
+"""A reader by document 01, section by section, and by nothing else. It says what crates/questions must answer; compare/by_document.py prints
+what it reads.
+
+It shares no code with what it is compared with, nor with what makes the clouds (compare/README.md)."""
 import struct
 
 
@@ -250,10 +253,10 @@ def active_places(level, origin, mask, stored):
 
 
 class Opened:
-    """A grid, by its name or its number."""
+    """A grid, by its name or its number; `file` is what the bytes were opened as, where that is at hand."""
 
-    def __init__(self, data, asked):
-        file = File(data)
+    def __init__(self, data, asked, file=None):
+        file = file or File(data)
         grid = file.grid(asked)
         check(grid.type[2] in (b'Tree_float_5_4_3', b'Tree_float_5_4_3_HalfFloat'), 12)
         check(not grid.parent[2], 13)

@@ -6,7 +6,7 @@ of document.py must agree.
 import struct
 
 import archive
-from archive import LENGTH, TREE, descriptor, head, string, u32, u64
+from archive import AT, FIELD, LENGTH, NAME, TREE, descriptor, fields, head, string, u32, u64
 from calls import refusal
 from document import Opened
 from program import joined
@@ -26,20 +26,24 @@ def doubles(count):
     return struct.pack('<%dd' % count, *(special.get(j, (j + 1) / 7 * (-1) ** j) for j in range(count)))
 
 
+MAP = FIELD['map'].decode()
+# The case leaves it free.
+BACKGROUND = u32(0x3f000000)
+
+
 def case_a(q):
     archive.case_a(q)
     q.comment('the map, 15 doubles')
-    q.put(126, *string('ScaleMap'))
-    q.change(138, doubles(15))
+    q.put(AT['map, length'], *string(MAP))
+    q.change(AT['scale values'], doubles(15))
     q.comment('one buffer, background, no tiles, one root, its origin')
-    q.put(258, u32(1), u32(0x3f000000), u32(0), u32(1), i32(-4096, 0, 4096))
+    q.put(AT['buffer count'], FIELD['buffer count'], BACKGROUND, *fields('tile count', 'root count', 'root origin'))
     q.comment('child 1057 of the 5-node, child 4095 of the 4-node, bit 74 of the leaf, and of its block')
-    q.put(418, b'\x02')
-    q.put(8990, b'\x80')
-    q.put(9513, b'\x04')
-    q.put(9577, b'\x04')
+    for name in ('5-node, child mask', '4-node, child mask', 'leaf, value mask', 'block, mask'):
+        q.change(AT[name], FIELD[name])
     q.comment('one value')
-    q.put(9633, u32(0x3f800000))
+    q.put(AT['block, stored value 0'], FIELD['block, stored value 0'])
+    archive.must_be_a(q, LENGTH, ['identity', 'background'] + [name for name in FIELD if AT['map'] < AT[name] < AT['buffer count']])
 
 
 BOTH_5 = 4382, with_bits(4096, 1057)
@@ -253,14 +257,14 @@ MASKS = masks_by_rule(5, 90)
 
 def built(version, flags, entries, width, leaves):
     """A file with the tree of A, but for its leaves, whose masks are given, up to where their blocks start. The end is at the grid."""
-    front = joined(head(version)) + bytes(36) + u32(0, 1) + joined(descriptor('d', TREE))
+    front = joined(head(version)) + bytes(36) + u32(0, 1) + joined(descriptor(NAME, TREE))
     at = len(front) + 24
     every = flags & 2 == 0 or version < 222
     byte = b'' if version < 222 else b'\0'
     fewer = 1 if version < 222 else 0
-    tree = (u32(flags) if version >= 222 else b'') + joined(entries) + joined(string('ScaleMap')) + doubles(15)
-    tree += u32(1, 0x3f000000, 0, 1) + i32(-4096, 0, 4096)
-    tree += with_bits(4096, 1057) + bytes(4096) + byte + bytes((32768 - fewer) * width * every)
+    tree = (u32(flags) if version >= 222 else b'') + joined(entries) + joined(string(MAP)) + doubles(15)
+    tree += FIELD['buffer count'] + BACKGROUND + joined(fields('tile count', 'root count', 'root origin'))
+    tree += joined(fields('5-node, child mask', '5-node, value mask')) + byte + bytes((32768 - fewer) * width * every)
     tree += with_bits(512, *range(4096 - len(leaves), 4096)) + bytes(512) + byte
     tree += bytes((4096 - fewer * len(leaves)) * width * every) + b''.join(leaves)
     return front + u64(at, at + len(tree), at) + tree

@@ -1,22 +1,25 @@
 """Questions to the walk call: document 01, section 7 and row 22 of section 8.
 
 What must be handed out is what tools/openvdb prints of OpenVDB's own tree, in the order of section 7; the reader of document.py
-must have the same list. Of a place that was never reached over the bytes only this is settled: records or 22, no more records
-than slots, all other slots as they were. The lines `Foreign` count the calls that are answered so, the lines `Past` those that
-get 22 and leave all slots as they were, as they must where slots are lent, records are left and the field needed is past the end.
+must have the same list. Of a place that was never reached over the bytes only this is settled: 22 and all slots as they were, or
+records: no more than slots and than are left, one at least where there are some of both, all other slots as they were, so many
+fewer left, told and in the place handed back, which is one of the same grid. The lines `Foreign` count the calls that are answered
+so, the lines `Past` those that get 22 and leave all slots as they were, as they must where slots are lent, records are left and
+the field needed is past the end.
 
 Each number can be wrong. A fault in crates/walk/src/lib.rt, and what it changes in the lines (tried with `rt try questions`):
 
     a slot behind the filled ones written             Walk, Next: the third number; Foreign: the second
     a slot written where none is lent                 Walk, Next: the third number
     a record more reported as filled                  Walk, Next: the first and the fourth; Foreign with few slots: the second
-    a record more, or none, reported as left          Walk, Next: the second and the fourth
+    a record more, or none, reported as left          Walk, Next: the second and the fourth; Foreign: the second
     other records where x has more slots than y       Walk, Next: the fifth, and the sum
     y and z exchanged                                 Walk, Next: the sum; List
     the place handed back is the one that was given   Walk: the first, the second, the fourth, and the sum
     21 in place of 22, or 22 with a slot written      Next of row 22; Foreign, Past: the second
     no record in place of 22                          Past: the second
-    23 for a place with a word that is all ones       Foreign with 2 ** 64 - 1: the second is 0, so that each of the 32 words was set
+    another start in the place that is handed back    Foreign: the second
+    23 for a place with a word that is all ones       Foreign with 2 ** 64 - 1: the second is 0, so that each of the 35 words was set
 """
 import grid
 import readers

@@ -80,33 +80,30 @@ with-stop f = with-refuses f refl
 
 pub ruleset answers = (with-on, with-stop)
 
--- a name among those from the k-th to the n-th of 64: the k-th is it, or is not, or none is left
+-- a name among those from the k-th to the n-th of 64: the k-th, whose bytes are a, is it, or is not, or none is left
 module _ (s name : List ℕ) (ws : List Span) (k n : ℕ) where
-  from-here : (w : Span) → k < n → k < 64 → length ws ≡ 64 → slice k n ws ≡ getD ws k w ∷ slice (suc k) n ws
+  from-here : (w : Span) → k < n → n < 64 → length ws ≡ 64 → slice k n ws ≡ getD ws k w ∷ slice (suc k) n ws
   from-here w h l j =
       let e : k < length (take n ws) = rw (length-take n ws, j) (omega arith) in
       drop-cons (take n ws) k w e ∙ ap (λ (a : Span). a ∷ slice (suc k) n ws) (getD-take n ws k w h)
 
   pub repeated-here :
-      (w : Span) (t : Bool) → k < n → k < 64 → length ws ≡ 64 → t ≡ sameBytes (bytesOf s (getD ws k w)) name → t ≡ true → true ≡ repeated s name (slice k n ws)
+      (w : Span) {a : List ℕ} {t : Bool} → k < n → n < 64 → length ws ≡ 64 → t ≡ sameBytes a name → a ≡ bytesOf s (getD ws k w) → t ≡ true →
+      true ≡ repeated s name (slice k n ws)
   unfolding repeated
-  repeated-here w t h l j e x = rw (from-here w h l j, ← e, x)
+  repeated-here w h l j e y x = rw (from-here w h l j, ← y, ← e, x)
 
   pub repeated-later :
-      (w : Span) (t : Bool) → k < n → k < 64 → length ws ≡ 64 → t ≡ sameBytes (bytesOf s (getD ws k w)) name → t ≡ false →
+      (w : Span) {a : List ℕ} {t : Bool} → k < n → n < 64 → length ws ≡ 64 → t ≡ sameBytes a name → a ≡ bytesOf s (getD ws k w) → t ≡ false →
       repeated s name (slice (k + 1) n ws) ≡ repeated s name (slice k n ws)
   unfolding repeated
-  repeated-later w t h l j e x = rw (from-here w h l j, add-one k, ← e, x)
-
-  repeated-none : length (take n ws) ≤ k → false ≡ repeated s name (slice k n ws)
-  unfolding repeated
-  repeated-none h = rw (drop-of-length-le (take n ws) h)
+  repeated-later w h l j e y x = rw (from-here w h l j, add-one k, ← y, ← e, x)
 
   pub repeated-end : n ≤ k → false ≡ repeated s name (slice k n ws)
-  repeated-end h = repeated-none (rw (length-take n ws) (omega arith))
-
-  pub repeated-past : length ws ≡ 64 → 64 ≤ k → false ≡ repeated s name (slice k n ws)
-  repeated-past e h = repeated-none (rw (length-take n ws, e) (omega arith))
+  unfolding repeated
+  repeated-end h =
+      let l : length (take n ws) ≤ k = rw (length-take n ws) (omega arith) in
+      rw (drop-of-length-le (take n ws) l)
 
 -- check 10, by what the name's bytes a are
 module _ (s : List ℕ) (ws : List Span) (w : Span) where

@@ -1,4 +1,3 @@
 pub mod Answer
 pub mod Archive
-pub mod Answers
 pub mod Inner

@@ -1,23 +1,21 @@
-// Section 2 of document 01: the whole file, and the answers by name and by number.
+// Section 2 of document 01: the whole file, with the grid that is asked for.
 ghost use mathlib.Core.Path.{_≡_};
 ghost use mathlib.Core.Option.{some, none};
 ghost use Prim.Native.Nat.{_≤_, _<_};
 ghost use mathlib.Core.List.{[]};
 ghost use lib.ListN.{take};
+ghost use mathlib.Core.Bool.{true, false};
 ghost use Rattle.fields.specs.Parse.{when};
+ghost use Rattle.fields.specs.Fields.{sameBytes};
 ghost use Rattle.descriptor.specs.Inner.{saysDescriptor};
-ghost use Rattle.archive.specs.Archive.{repeated, isAsked, fileAsked, openFile, gridAsked, gridNamed, gridNumbered};
-ghost use Rattle.archive.specs.Archive.{entryAt, fileEntry, gridEntry, gridEntryNamed, gridEntryNumbered};
+ghost use Rattle.archive.specs.Archive.{repeated, isAsked, fileAsked};
 ghost use Rattle.archive.specs.Inner.{nextField, saysFoundGrid, gridsField, saysGrids, saysFile};
-ghost use Rattle.archive.specs.Answers.{saysHeaderAnswer, saysDescriptorAnswer, saysEntryAnswer};
 use descriptor::DescriptorField;
 use descriptor::GridDescriptor;
+use fields::Difference;
 use fields::Span;
 use header::ArchiveHeader;
 use header::HeaderField;
-use metadata::FoundEntry;
-use metadata::MetadataField;
-use metadata::MetadataValue;
 
 // Which grid is asked for, if any; a name stands beside it.
 pub enum Asked {
@@ -42,32 +40,55 @@ pub enum FileAnswer {
     Refused(u32),
 }
 
-pub enum HeaderAnswer {
-    Header(ArchiveHeader),
-    Refused(u32),
+// Whether two names are known to differ: by their lengths, or at one of the first n places.
+fn told_apart(a: &[u8], b: &[u8], places: &[usize; 64], n: usize) -> bool
+    requires { ⌜ n ≤ 64 ⌝ }
+    ensures { λ r. ⌜ (r ≡ true → false ≡ sameBytes (now (a .entry)) (now (b .entry))) ⌝ }
+{
+    if a.len() != b.len() {
+        return true;
+    }
+    let mut k = 0;
+    while k < n {
+        let p = places[k];
+        if p < a.len() {
+            if a[p] != b[p] {
+                return true;
+            }
+        }
+        k = k + 1;
+    }
+    false
 }
 
-pub enum DescriptorAnswer {
-    Descriptor(GridDescriptor),
-    Refused(u32),
+// Whether the n-th name, b, is the earlier name a. Where they have to be compared whole, the place at which they differ is kept as the n-th: any
+// two of the earlier names differ in length or at one of the places, so that at most one of them is compared whole with b.
+fn same_name(a: &[u8], b: &[u8], places: &mut [usize; 64], n: usize) -> bool
+    requires { ⌜ n < 64 ⌝ }
+    ensures { λ r. ⌜ r ≡ sameBytes (now (a .entry)) (now (b .entry)) ⌝ }
+{
+    if told_apart(a, b, places, n) {
+        return false;
+    }
+    match fields::first_difference(a, b) {
+        Difference::Nowhere => true,
+        Difference::Lengths => false,
+        Difference::At(p) => {
+            places[n] = p;
+            false
+        }
+    }
 }
 
-pub enum EntryAnswer {
-    Value(MetadataValue),
-    Refused(u32),
-}
-
-// Whether one of the first n names has these bytes; there are 64 in all.
-fn is_repeated(s: &[u8], names: [Span; 64], n: usize, name: &[u8]) -> bool
+// Whether one of the first n names has these bytes.
+fn is_repeated(s: &[u8], names: [Span; 64], n: usize, name: &[u8], places: &mut [usize; 64]) -> bool
+    requires { ⌜ n < 64 ⌝ }
     ensures { λ r. ⌜ r ≡ repeated (now (s .entry)) (now (name .entry)) (take n names) ⌝ }
 {
     let mut k = 0;
     while k < n {
-        if 64 <= k {
-            return false;
-        }
         let w = names[k];
-        if metadata::has_bytes(s, w, name) {
+        if same_name(fields::bytes_of(s, w), name, places, n) {
             return true;
         }
         k = k + 1;
@@ -76,14 +97,22 @@ fn is_repeated(s: &[u8], names: [Span; 64], n: usize, name: &[u8]) -> bool
 }
 
 // A descriptor that comes after those of the first n names: check 10 once its grid's metadata is read.
-fn read_next(s: &[u8], h: ArchiveHeader, names: [Span; 64], n: usize, at: usize) -> DescriptorField
+fn read_next(
+    s: &[u8],
+    h: ArchiveHeader,
+    names: [Span; 64],
+    n: usize,
+    at: usize,
+    places: &mut [usize; 64],
+) -> DescriptorField
+    requires { ⌜ n < 64 ⌝ }
     ensures { λ r. ⌜ saysDescriptor r ≡ nextField (now (s .entry)) h (take n names) at ⌝ }
 {
     match descriptor::read_descriptor(s, h, at) {
         DescriptorField::Refused(k) => DescriptorField::Refused(k),
         DescriptorField::Got(d, q) => {
             let w = d.name;
-            if is_repeated(s, names, n, fields::bytes_of(s, w)) {
+            if is_repeated(s, names, n, fields::bytes_of(s, w), places) {
                 return DescriptorField::Refused(10);
             }
             DescriptorField::Got(d, q)
@@ -97,7 +126,7 @@ fn is_asked(s: &[u8], asked: Asked, name: &[u8], i: u32, d: GridDescriptor) -> b
 {
     match asked {
         Asked::Nothing => false,
-        Asked::ByName => metadata::has_bytes(s, d.name, name),
+        Asked::ByName => fields::has_bytes(s, d.name, name),
         Asked::ByNumber(n) => i == n,
     }
 }
@@ -126,12 +155,13 @@ fn read_grids(s: &[u8], h: ArchiveHeader, asked: Asked, name: &[u8], at: usize) 
 {
     let count = h.grid_count;
     let mut names = [Span { start: 0, len: 0 }; 64];
+    let mut places: [usize; 64] = [0; 64];
     let mut found = FoundGrid::Nothing;
     let mut p = at;
     let mut i: u32 = 0;
     while i < count {
         let n = i as usize;
-        match read_next(s, h, names, n, p) {
+        match read_next(s, h, names, n, p, &mut places) {
             DescriptorField::Refused(k) => {
                 return GridsField::Refused(k);
             }
@@ -158,91 +188,4 @@ pub fn read_file(s: &[u8], asked: Asked, name: &[u8]) -> FileAnswer
             GridsField::Got(found, _) => FileAnswer::Got(h, found),
         },
     }
-}
-
-// Opens the file.
-pub fn open_file(s: &[u8]) -> HeaderAnswer
-    ensures { λ r. ⌜ saysHeaderAnswer r ≡ openFile (now (s .entry)) ⌝ }
-{
-    match read_file(s, Asked::Nothing, b"") {
-        FileAnswer::Refused(k) => HeaderAnswer::Refused(k),
-        FileAnswer::Got(h, _) => HeaderAnswer::Header(h),
-    }
-}
-
-// The descriptor that is asked for.
-pub fn grid_asked(s: &[u8], asked: Asked, name: &[u8]) -> DescriptorAnswer
-    ensures { λ r. ⌜ saysDescriptorAnswer r ≡ gridAsked (now (s .entry)) asked (now (name .entry)) ⌝ }
-{
-    match read_file(s, asked, name) {
-        FileAnswer::Refused(k) => DescriptorAnswer::Refused(k),
-        FileAnswer::Got(_, found) => match found {
-            FoundGrid::At(d) => DescriptorAnswer::Descriptor(d),
-            FoundGrid::Nothing => DescriptorAnswer::Refused(11),
-        },
-    }
-}
-
-// The descriptor of the grid of this name.
-pub fn grid_named(s: &[u8], name: &[u8]) -> DescriptorAnswer
-    ensures { λ r. ⌜ saysDescriptorAnswer r ≡ gridNamed (now (s .entry)) (now (name .entry)) ⌝ }
-{
-    grid_asked(s, Asked::ByName, name)
-}
-
-// The descriptor of the grid with this number, from 0.
-pub fn grid_numbered(s: &[u8], n: u32) -> DescriptorAnswer
-    ensures { λ r. ⌜ saysDescriptorAnswer r ≡ gridNumbered (now (s .entry)) n ⌝ }
-{
-    grid_asked(s, Asked::ByNumber(n), b"")
-}
-
-// The last entry of this name in the metadata at `at`.
-fn entry_at(s: &[u8], name: &[u8], at: usize) -> EntryAnswer
-    ensures { λ r. ⌜ saysEntryAnswer r ≡ entryAt (now (s .entry)) (now (name .entry)) at ⌝ }
-{
-    match metadata::read_metadata(s, name, at) {
-        MetadataField::Past => EntryAnswer::Refused(2),
-        MetadataField::Got(found, _) => match found {
-            FoundEntry::At(e) => {
-                let value = e.value;
-                EntryAnswer::Value(value)
-            }
-            FoundEntry::Nothing => EntryAnswer::Refused(11),
-        },
-    }
-}
-
-// An entry of the file's metadata.
-pub fn file_entry(s: &[u8], name: &[u8]) -> EntryAnswer
-    ensures { λ r. ⌜ saysEntryAnswer r ≡ fileEntry (now (s .entry)) (now (name .entry)) ⌝ }
-{
-    match open_file(s) {
-        HeaderAnswer::Refused(k) => EntryAnswer::Refused(k),
-        HeaderAnswer::Header(h) => entry_at(s, name, h.meta_pos),
-    }
-}
-
-// An entry of the metadata of the grid that is asked for.
-fn grid_entry(s: &[u8], asked: Asked, grid: &[u8], name: &[u8]) -> EntryAnswer
-    ensures { λ r. ⌜ saysEntryAnswer r ≡ gridEntry (now (s .entry)) asked (now (grid .entry)) (now (name .entry)) ⌝ }
-{
-    match grid_asked(s, asked, grid) {
-        DescriptorAnswer::Refused(k) => EntryAnswer::Refused(k),
-        DescriptorAnswer::Descriptor(d) => entry_at(s, name, d.meta_pos),
-    }
-}
-
-// An entry of the metadata of the grid of this name.
-pub fn grid_entry_named(s: &[u8], grid: &[u8], name: &[u8]) -> EntryAnswer
-    ensures { λ r. ⌜ saysEntryAnswer r ≡ gridEntryNamed (now (s .entry)) (now (grid .entry)) (now (name .entry)) ⌝ }
-{
-    grid_entry(s, Asked::ByName, grid, name)
-}
-
-// An entry of the metadata of the grid with this number, from 0.
-pub fn grid_entry_numbered(s: &[u8], n: u32, name: &[u8]) -> EntryAnswer
-    ensures { λ r. ⌜ saysEntryAnswer r ≡ gridEntryNumbered (now (s .entry)) n (now (name .entry)) ⌝ }
-{
-    grid_entry(s, Asked::ByNumber(n), b"", name)
 }

@@ -16,10 +16,9 @@ use Rattle.roots.specs.Roots.{buffersField, rootCountField, tilesField, treeHea
 use Rattle.tree.specs.Inner.{kept}
 use Rattle.metadata.specs.Metadata.{metadata, latest, lookup}
 use Rattle.header.specs.Header.{magicField, versionField, offsetsField, packedField, frontField, countField, header}
-use Rattle.descriptor.specs.Descriptor.{namesField, positionField, positionsField, flagsField, halfEntry, descriptor}
+use Rattle.descriptor.specs.Descriptor.{namesField, positionField, positionsField, flagsField, halfEntry, treeKind, descriptor}
 use Rattle.archive.specs.Archive.{repeated, descriptors, file}
 use Rattle.transform.specs.Transform.{mapKind, mapKindField, scaleField, mapField, transform}
-use Rattle.grid.specs.Grid.{isFloatTree}
 use Rattle.cases.specs.Cases.{caseA, lastVoxel, tiles, Cases}
 use Rattle.cases.proofs.Cloud.{listed, filled, IsCloud, opens, fills}
 use Rattle.cases.proofs.Laws.{passed}
@@ -30,26 +29,26 @@ use Rattle.cases.proofs.Laws.{passed}
 unfoldable reads-front : Unit {0}
 unfolding
     when then check field many u64At stringField sameBytes metadata latest lookup magicField versionField offsetsField packedField frontField countField
-    header namesField positionField positionsField flagsField halfEntry descriptor repeated descriptors file
+    header namesField positionField positionsField flagsField halfEntry treeKind descriptor repeated descriptors file
 reads-front = tt
 
 unfoldable reads-tree : Unit {0}
 unfolding
-    isFloatTree ofBits mapKind mapKindField scaleField mapField transform buffersField rootCountField tilesField treeHeadField signed remainder aligned isAmong
+    ofBits mapKind mapKindField scaleField mapField transform buffersField rootCountField tilesField treeHeadField signed remainder aligned isAmong
     originField maskBit passed kept
 reads-tree = tt
 
 caseA-is : IsCloud caseA (negsuc 4095, pos 0, pos 4096) 1057 [] 4095 [] 74
 unfolding caseA reads-front reads-tree
-caseA-is = record { front-is = (refl, refl, refl, refl, refl, refl); origin-read = refl; node5-is = (refl, refl, refl, refl); node4-is = (refl, refl, refl, refl); block-is = (refl, refl, refl) }
+caseA-is = record { front-is = (refl, refl, refl, refl, refl); origin-read = refl; node5-is = (refl, refl, refl, refl); node4-is = (refl, refl, refl, refl); block-is = (refl, refl, refl) }
 
 lastVoxel-is : IsCloud lastVoxel (pos 2147479552, pos 2147479552, pos 2147479552) 32767 [] 4095 [] 511
 unfolding lastVoxel reads-front reads-tree
-lastVoxel-is = record { front-is = (refl, refl, refl, refl, refl, refl); origin-read = refl; node5-is = (refl, refl, refl, refl); node4-is = (refl, refl, refl, refl); block-is = (refl, refl, refl) }
+lastVoxel-is = record { front-is = (refl, refl, refl, refl, refl); origin-read = refl; node5-is = (refl, refl, refl, refl); node4-is = (refl, refl, refl, refl); block-is = (refl, refl, refl) }
 
 tiles-is : IsCloud tiles (pos 0, pos 0, pos 0) 0 (1057 ∷ []) 0 (3 ∷ []) 0
 unfolding tiles reads-front reads-tree
-tiles-is = record { front-is = (refl, refl, refl, refl, refl, refl); origin-read = refl; node5-is = (refl, refl, refl, refl); node4-is = (refl, refl, refl, refl); block-is = (refl, refl, refl) }
+tiles-is = record { front-is = (refl, refl, refl, refl, refl); origin-read = refl; node5-is = (refl, refl, refl, refl); node4-is = (refl, refl, refl, refl); block-is = (refl, refl, refl) }
 
 -- what is computed of a leaf's or a node's bytes
 unfoldable reads-values : Unit {0}

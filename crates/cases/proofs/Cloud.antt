@@ -15,7 +15,7 @@ use Rattle.coordinates.specs.declared.GlobalCoord.{GlobalCoord}
 use Rattle.masks.specs.Masks.{maskBit, consIf, onesFrom, ones, countBelow}
 use Rattle.masks.proofs.Laws.{ones-none, count-suc-one, count-suc-zero}
 use Rattle.half.specs.Half.{storedValue}
-use Rattle.values.specs.Values.{formField, formSelected, inactiveField, selectionField, inactivesField, storedBy, headField, isStored}
+use Rattle.values.specs.Values.{isPacked, formField, formSelected, inactiveField, selectionField, inactivesField, storedBy, headField, isStored}
 use Rattle.values.specs.Values.{runField, valuesField, isSelected, inactiveValue, placeValue, valuesFrom}
 use Rattle.values.specs.declared.Coding.{Coding}
 use Rattle.values.specs.declared.Stored.{Stored}
@@ -28,7 +28,7 @@ use Rattle.nodes.specs.declared.Leaf.{Leaf}
 use Rattle.nodes.specs.declared.Block.{Block}
 use Rattle.roots.specs.Roots.{treeHeadField, originField}
 use Rattle.roots.specs.declared.TreeHead.{TreeHead}
-use Rattle.tree.specs.Topology.{Node4, Node5, leafField, node4Field, childField, node5Field, rootField, rootsField, topology}
+use Rattle.tree.specs.Topology.{Node4, Node5, leafField, node4Field, childField, node5Field, rootField, rootsField}
 use Rattle.tree.specs.Blocks.{filled4, filled5, blocksField}
 use Rattle.tree.specs.Active.{Record, Piece, edgeOf, sideOf, joined, pieces4, pieces5, pieces, recordAt, recordsOf, allBlocks}
 use Rattle.tree.specs.Inner.{kept}
@@ -37,13 +37,15 @@ use Rattle.header.specs.Header.{header}
 use Rattle.header.specs.declared.ArchiveHeader.{ArchiveHeader}
 use Rattle.descriptor.specs.declared.GridDescriptor.{GridDescriptor}
 use Rattle.descriptor.specs.declared.HalfEntry.the-variants as Half
+use Rattle.descriptor.specs.declared.TreeKind.the-variants as Kind
 use Rattle.archive.specs.Answer.{gives, present}
 use Rattle.archive.specs.Archive.{File, file, isAsked, fileAsked}
 use Rattle.archive.specs.declared.Asked.{Asked}
 use Rattle.archive.specs.declared.Asked.the-variants as A
 use Rattle.archive.proofs.Laws.{with-gives, answer-got}
 use Rattle.transform.specs.Transform.{transform}
-use Rattle.grid.specs.Grid.{Grid, isFloatTree, isPacked, widthOf, contentField, gridField, grid, activeOf, openGrid, presentLeaf, fillLeaf, fillLeafNamed}
+use Rattle.grid.specs.Grid.{Grid, widthOf, contentField, gridField, grid, activeOf, openGrid}
+use Rattle.leaves.specs.Leaves.{presentLeaf, fillLeaf, fillLeafNamed}
 use Rattle.cases.specs.Cases.{coded, zeroMap, openedWith, Opens}
 use Rattle.cases.proofs.Laws.{part, passed, bit-part, mask-ones, parts-agree, no-overlap}
 
@@ -216,6 +218,7 @@ descriptorOf block end = record {
   «block_pos» = block;
   «end_pos» = end;
   compression = 2;
+  kind = Kind.Float;
   half = Half.Nothing;
   «meta_pos» = 122;
   «tree_pos» = 126;
@@ -224,10 +227,10 @@ descriptorOf block end = record {
 abbrev pub fileOf : ℕ → ℕ → File
 fileOf block end = record { header = archiveHeader; grids = descriptorOf block end ∷ [] }
 
--- what the bytes before the root say, with the end of the file: header and descriptor, by which names the grid and its tree are known, map, tree head
+-- what the bytes before the root say, with the end of the file: header and descriptor, by which name the grid is known, map, tree head
 abbrev pub IsFront : List ℕ → ℕ → ℕ → Type 0
 IsFront s block end =
-    (length s ≡ end) × (got (fileOf block end) end ≡ file s) × (sameBytes (part s 69 1) (ascii "d") ≡ true) × (isFloatTree (part s 74 16) ≡ true)
+    (length s ≡ end) × (got (fileOf block end) end ≡ file s) × (sameBytes (part s 69 1) (ascii "d") ≡ true)
     × (got zeroMap 258 ≡ transform s 126) × (got head 274 ≡ treeHeadField s 256 258)
 
 -- what the whole file's bytes say: the root's origin, child and active places of the two nodes, the leaf's active place
@@ -253,12 +256,15 @@ module _ {s : List ℕ} {o : GlobalCoord} {p5 : ℕ} {v5 : List ℕ} {p4 : ℕ} 
 
   abbrev pub found : Grid
   found = record {
-    coding = coding;
+    header = archiveHeader;
+    own = descriptorOf (at3 v5 v4 + 64) (at3 v5 v4 + 133);
+    tree = descriptorOf (at3 v5 v4 + 64) (at3 v5 v4 + 133);
     map = zeroMap;
     mapEnd = 258;
-    tree = record { head = head; roots = node5 ∷ [] };
+    head = head;
+    coding = coding;
+    roots = node5 ∷ [];
     treeEnd = at3 v5 v4 + 64;
-    block = at3 v5 v4 + 64;
     filled = record { node = node5; nodes = record { node = node4; blocks = block ∷ [] } ∷ [] } ∷ [];
     blocksEnd = at3 v5 v4 + 64 + 64 + 1 + 4;
   }
@@ -301,16 +307,16 @@ module _ {s : List ℕ} {o : GlobalCoord} {p5 : ℕ} {v5 : List ℕ} {p4 : ℕ} 
       many-one _ refl
       (then-got _ (many-one _ refl (then-got _ (many-one _ refl (block-read s leaf (at3 v5 v4 + 64) (f .block-is) (omega arith))) refl)) refl)
 
-  content-read : got found (found .blocksEnd) ≡ contentField s coding (descriptorOf (at3 v5 v4 + 64) (at3 v5 v4 + 133))
-  unfolding contentField topology
-  content-read = then-got _ (f .front-is .4) (then-got _ (then-got _ (f .front-is .5) (then-got _ roots-read refl)) (then-got _ blocks-read refl))
+  content-read : got found (found .blocksEnd) ≡ contentField s archiveHeader (descriptorOf (at3 v5 v4 + 64) (at3 v5 v4 + 133))
+  unfolding contentField widthOf
+  content-read = then-got _ (f .front-is .3) (then-got _ (f .front-is .4) (then-got _ roots-read (then-got _ blocks-read refl)))
 
   opened : (asked : Asked) (name : List ℕ) → isAsked s asked name 0 (descriptorOf (at3 v5 v4 + 64) (at3 v5 v4 + 133)) ≡ true → gives found ≡ grid s asked name
   unfolding grid fileAsked latest when present gridField isPacked widthOf check
   opened asked name h =
       with-gives _ (with-gives _ (answer-got (f .front-is .1)) refl)
       (with-gives _ (ap present (when-true _ (sym h) refl))
-      (answer-got (check-passes 12 (sym (f .front-is .3)) content-read)))
+      (answer-got content-read))
 
   -- its active list: the leaf's record, the 4-node's, the 5-node's
   abbrev pub list : List Record

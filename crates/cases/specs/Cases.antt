@@ -22,7 +22,8 @@ use Rattle.nodes.specs.Nodes.{nodeField, blockField}
 use Rattle.nodes.specs.declared.NodeHeader.{NodeHeader}
 use Rattle.nodes.specs.declared.Block.{Block}
 use Rattle.tree.specs.Active.{Record}
-use Rattle.grid.specs.Grid.{Grid, grid, activeOf, placeAfter, openGridNamed, openGridNumbered, fillLeafNamed}
+use Rattle.grid.specs.Grid.{Grid, grid, activeOf, placeAfter, openGridNamed, openGridNumbered}
+use Rattle.leaves.specs.Leaves.{fillLeafNamed}
 use Rattle.grid.specs.declared.OpenedGrid.{OpenedGrid}
 
 -- ---- bytes
@@ -165,9 +166,9 @@ pub record InNode (s : List ℕ) (c : Coding) (n p v : ℕ) : Type 0 where
   pub read : got node end ≡ nodeField s c n 0
   pub holds : placeValue s c (node .child) (node .value) (node .values) p ≡ v
 
--- how values are stored: a version, flags, a width
+-- how values are stored: a version, flags, a width; the background is not read
 abbrev pub coded : ℕ → ℕ → ℕ → Coding
-coded version flags width = record { version = version; flags = flags; width = width }
+coded version flags width = record { version = version; flags = flags; width = width; background = 0 }
 
 -- The table of section 9.
 pub record Cases : Type 0 where

@@ -2,3 +2,4 @@ pub mod Integers
 pub mod Remainder
 pub mod Axis
 pub mod Laws
+pub mod Same

@@ -1,10 +1,11 @@
 -- Places and voxel coordinates (section 4), and the voxels that a cube covers (section 7).
 -- A coordinate is an integer, ℤ; a place number and a place's x, y and z are natural numbers.
 use Prim.Native.Nat.{ℕ, suc, _+_, _-_, _*_, _/_, _%_}
-use mathlib.Core.Bool.{Bool, _&&_}
+use mathlib.Core.Bool.{Bool, false, _&&_}
 use lib.Dec.{eqb}
 use lib.IntN.{ℤ, pos, negsuc, _+ℤ_, _-ℤ_}
 use lib.Signed.{leZ, ltZ}
+use Rattle.fields.specs.declared.IVec3.{IVec3}
 use Rattle.coordinates.specs.declared.Index.{Index}
 use Rattle.coordinates.specs.declared.LocalCoord.{LocalCoord}
 use Rattle.coordinates.specs.declared.GlobalCoord.{GlobalCoord}
@@ -59,3 +60,17 @@ covers c side v = within (c .0) side (v .0) && within (c .1) side (v .1) && with
 -- section 8, check 17: all three are multiples of m
 unfoldable pub aligned : ℕ → GlobalCoord → Bool
 aligned m o = eqb (remainder (o .0) m) 0 && eqb (remainder (o .1) m) 0 && eqb (remainder (o .2) m) 0
+
+-- whether two integers, and two coordinates, are the same
+unfoldable pub sameInt : ℤ → ℤ → Bool
+sameInt (pos a) (pos b) = eqb a b
+sameInt (pos a) (negsuc b) = false
+sameInt (negsuc a) (pos b) = false
+sameInt (negsuc a) (negsuc b) = eqb a b
+
+unfoldable pub sameCoord : GlobalCoord → GlobalCoord → Bool
+sameCoord a b = sameInt (a .0) (b .0) && (sameInt (a .1) (b .1) && sameInt (a .2) (b .2))
+
+-- an origin read from the file
+abbrev pub originOf : IVec3 → GlobalCoord
+originOf v = (v .x, v .y, v .z)

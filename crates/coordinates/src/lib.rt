@@ -5,7 +5,8 @@ ghost use mathlib.Core.Path.{_≡_};
 ghost use mathlib.Core.Bool.{true};
 ghost use Prim.Native.Nat.{_*_, _<_};
 ghost use Rattle.coordinates.specs.Inner.{Divides, Node};
-ghost use Rattle.coordinates.specs.Coordinates.{aligned, coordOf, globalOf, localOf, placeAlong, placeOf, places, remainder, rootCoord, rootOrigin};
+ghost use Rattle.coordinates.specs.Coordinates.{aligned, coordOf, globalOf, localOf, placeAlong, placeOf, places, remainder, rootCoord, rootOrigin, sameCoord, originOf};
+use fields::IVec3;
 
 // The place number of a child, a tile or a voxel in its node.
 pub struct Index(pub u32);
@@ -107,4 +108,18 @@ pub fn root_origin(v: GlobalCoord) -> GlobalCoord
     let y = root_coord(v.1);
     let z = root_coord(v.2);
     GlobalCoord(x, y, z)
+}
+
+// Whether two coordinates are the same.
+pub fn same_coord(a: GlobalCoord, b: GlobalCoord) -> bool
+    ensures { λ r. ⌜ r ≡ sameCoord a b ⌝ }
+{
+    (a.0 == b.0) & ((a.1 == b.1) & (a.2 == b.2))
+}
+
+// An origin read from the file.
+pub fn origin_of(v: IVec3) -> GlobalCoord
+    ensures { λ r. ⌜ r ≡ originOf v ⌝ }
+{
+    GlobalCoord(v.x, v.y, v.z)
 }

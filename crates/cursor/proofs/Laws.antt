@@ -13,14 +13,14 @@ use Rattle.fields.specs.Fields.{bytesField, iVec3Field}
 use Rattle.fields.specs.declared.Span.{Span}
 use Rattle.fields.specs.declared.IVec3.{IVec3}
 use Rattle.fields.proofs.Laws.{then-got, then-fails, when-true, when-false}
-use Rattle.coordinates.specs.Coordinates.{index, globalOf, aligned}
+use Rattle.coordinates.specs.Coordinates.{index, globalOf, aligned, originOf}
 use Rattle.coordinates.specs.declared.GlobalCoord.{GlobalCoord}
 use Rattle.coordinates.proofs.Axis.{and-both}
 use Rattle.masks.specs.Masks.{maskBit, onesFrom}
 use Rattle.masks.specs.Inner.{nextOne}
 use Rattle.masks.proofs.Laws.{next-none, next-some, next-lt}
 use Rattle.values.specs.declared.Coding.{Coding}
-use Rattle.nodes.specs.Nodes.{originOf, nodeField, blockField}
+use Rattle.nodes.specs.Nodes.{nodeField, blockField}
 use Rattle.nodes.specs.declared.NodeHeader.{NodeHeader}
 use Rattle.nodes.specs.declared.Block.{Block}
 use Rattle.tree.specs.Topology.{leafField}

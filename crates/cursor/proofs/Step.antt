@@ -71,7 +71,7 @@ module _ (s : List ℕ) (c : Coding) (wide : isWidth (c .width)) where
       after-step _ _ (then-always _ _ _ λ mask q d. got-always _ _ _ (after-step _ _ λ b r e.
       let h = block-back s c _ block b r e in
       let multiple = subst (λ (o : GlobalCoord). aligned 8 o ≡ true) (sym (h .origin)) (child-aligned 16 8 o (index p) (lit≤ tt) (lit≤ tt) a) in
-      one (record { held = h .held wide; multiple = multiple; kept = λ p l. block-kept _ block p b r e })
+      one (record { held = h .held wide; multiple = multiple; kept = λ p l. block-kept _ block p b r e; leaf = λ z. refl })
       (sym (to-come4 s c left q r five (beyond o node p)))))
 
   from4-step : (left : ℕ) (five four : Entered) (at block : ℕ) → Step s c (from4 s c left five four at block)
@@ -80,7 +80,7 @@ module _ (s : List ℕ) (c : Coding) (wide : isWidth (c .width)) where
       children-step 128 512 _ four _ at block (λ a q. leaf-step left five (four .origin) (four .pos) a q at block)
       (λ a. after-step _ _ λ h e d.
       let b = node-back 512 s c _ refl (lit≤ tt) h e d in
-      one (record { held = b .held wide; multiple = a; kept = λ p l. node-active _ s 512 _ _ p (b .apart) l }) (sym (to-come5 s c left at block five)))
+      one (record { held = b .held wide; multiple = a; kept = λ p l. node-active _ s 512 _ _ p (b .apart) l; leaf = λ z. absurd (omega arith) }) (sym (to-come5 s c left at block five)))
 
   from5-step : (left : ℕ) (five : Entered) (at block : ℕ) → Step s c (from5 s c left five at block)
   unfolding rest5 node4Rest leaving
@@ -88,7 +88,7 @@ module _ (s : List ℕ) (c : Coding) (wide : isWidth (c .width)) where
       children-step 4096 4096 _ five _ at block (λ a q. after-step _ _ λ h p d. from4-step left (beyond (five .origin) (five .pos) q) _ p block)
       (λ a. after-step _ _ λ h e d.
       let b = node-back 4096 s c _ refl (lit≤ tt) h e d in
-      one (record { held = b .held wide; multiple = a; kept = λ p l. node-active _ s 4096 _ _ p (b .apart) l }) (sym (to-come0 s c left at block)))
+      one (record { held = b .held wide; multiple = a; kept = λ p l. node-active _ s 4096 _ _ p (b .apart) l; leaf = λ z. absurd (omega arith) }) (sym (to-come0 s c left at block)))
 
   roots-step : (left at block : ℕ) → Step s c (rootsRest s c left at block)
   unfolding rootsRest

@@ -11,14 +11,14 @@ use lib.IntN.{pos}
 use lib.ListN.{length}
 use Rattle.fields.specs.Parse.{Parse, got, fails, when}
 use Rattle.fields.specs.Fields.{iVec3Field}
-use Rattle.coordinates.specs.Coordinates.{index, places, globalOf, aligned}
+use Rattle.coordinates.specs.Coordinates.{index, places, globalOf, aligned, originOf}
 use Rattle.coordinates.specs.declared.GlobalCoord.{GlobalCoord}
 use Rattle.masks.specs.Masks.{maskBit, onesFrom}
 use Rattle.masks.specs.Inner.{nextOne}
 use Rattle.values.specs.Values.{isStored}
 use Rattle.values.specs.Inner.{Held}
 use Rattle.values.specs.declared.Coding.{Coding}
-use Rattle.nodes.specs.Nodes.{originOf, nodeField, blockField}
+use Rattle.nodes.specs.Nodes.{nodeField, blockField}
 use Rattle.nodes.specs.declared.NodeHeader.{NodeHeader}
 use Rattle.tree.specs.Topology.{leafField}
 use Rattle.tree.specs.Active.{Piece, sideOf, edgeOf, leafPiece}
@@ -175,8 +175,9 @@ saysChild NoChild = some none
 saysChild RefusedChild = none
 
 -- What a reader of a piece's places asks, and every piece that is handed out has (proofs/Step.antt): its masks and values lie in the file, its
--- origin is a multiple of its span, and an active place is stored.
+-- origin is a multiple of its span, an active place is stored, and a leaf has its value mask in place of a child mask.
 pub record HeldPiece (s : List ℕ) (c : Coding) (q : Piece) : Type 0 where
   pub held : Held s c (places (edgeOf (q .level)) / 8) (q .child) (q .value) (q .values)
   pub multiple : aligned (edgeOf (q .level) * sideOf (q .level)) (q .origin) ≡ true
   pub kept : (p : ℕ) → p < places (edgeOf (q .level)) → maskBit s (q .value) p ≡ true → isStored s (q .values .stored) (q .child) (q .value) p ≡ true
+  pub leaf : q .level ≡ 0 → q .child ≡ q .value

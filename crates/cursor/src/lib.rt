@@ -86,7 +86,7 @@ pub fn between_roots(roots_left: u32, topology_pos: usize, block_pos: usize) -> 
 
 // Whether words can be those of a node: its child mask of n bytes lies in the file, its next place is none past them, and its origin is a
 // multiple of m, so that its places' coordinates fit an i32.
-fn is_entered(s: &[u8], m: u32, n: usize, w: Entered) -> bool
+pub fn is_entered(s: &[u8], m: u32, n: usize, w: Entered) -> bool
     requires { ⌜ Divides m × (n ≤ 4096) ⌝ }
     ensures { λ r. ⌜ r ≡ isEntered (now (s .entry)) m n w ⌝ }
 {
@@ -292,7 +292,7 @@ fn next_in_roots(
     match nodes::read_node_header(s, c, 4096, p) {
         NodeField::Refused(k) => NextPiece::Refused(k),
         NodeField::Got(_, q) => {
-            let origin = nodes::origin_of(v);
+            let origin = coordinates::origin_of(v);
             let node5 = Entered {
                 origin,
                 pos: p,

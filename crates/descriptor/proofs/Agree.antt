@@ -7,23 +7,23 @@ use native.Mathlib.Omega.{arith}
 use lib.Dec.{leb}
 use Rattle.fields.specs.Parse.{got}
 use Rattle.fields.proofs.Laws.{then-got, field-back, Always, then-always, got-always, check-always}
-use Rattle.fields.proofs.Agree.{Same, Reads, reads, then-reads, got-reads, check-reads, u64-reads, string-reads, SameBytes}
-use Rattle.fields.proofs.Agree.{Tells, got-tells, then-tells, then-plain, string-tells, string-end, keep, part}
+use Rattle.fields.proofs.Agree.{Same, Reads, reads, then-reads, got-reads, check-reads, u64-reads, SameBytes, bytes-same}
+use Rattle.fields.proofs.Agree.{Tells, got-tells, then-tells, string-tells, string-end, keep, part}
 use Rattle.metadata.proofs.Agree.{lookup-reads}
 use Rattle.header.specs.declared.ArchiveHeader.{ArchiveHeader}
 use Rattle.descriptor.specs.Descriptor.{namesField, positionField, positionsField, flagsField, descriptor}
 use Rattle.descriptor.specs.declared.GridNames.{GridNames}
 use Rattle.descriptor.specs.declared.GridDescriptor.{GridDescriptor}
 
--- the names of a grid, and of its type, are the same in both files
+-- the names of a grid, of its type and of its parent are the same in both files
 abbrev SameGridNames : List ℕ → List ℕ → GridNames → Type 0
-SameGridNames s t d = SameBytes s t (d .name) × SameBytes s t (d .«grid_type»)
+SameGridNames s t d = SameBytes s t (d .name) × SameBytes s t (d .«grid_type») × SameBytes s t (d .«instance_parent»)
 
 names-tells : {s t : List ℕ} {lo at : ℕ} → Tells s t lo at (SameGridNames s t) (namesField s at) (namesField t at)
 unfolding namesField
 names-tells {s} {t} =
-    then-tells string-tells λ name p e x. then-tells string-tells λ type q f y. then-plain string-reads λ parent n g.
-    got-tells (SameGridNames s t) λ l h. (keep g (keep f x) l h, keep g y l h)
+    then-tells string-tells λ name p e x. then-tells string-tells λ type q f y. then-tells string-tells λ parent n g z.
+    got-tells (SameGridNames s t) λ l h. (keep g (keep f x) l h, keep g y l h, z l h)
 
 position-reads : {s t : List ℕ} {lo at : ℕ} → Reads s t lo at (positionField s at) (positionField t at)
 unfolding positionField
@@ -57,7 +57,7 @@ pub record SameDescriptor (s t : List ℕ) (at : ℕ) (d : GridDescriptor) : Typ
   pub content : Same s t (d .«grid_pos») (d .«tree_pos»)
 
 abbrev pub SameNames : List ℕ → List ℕ → GridDescriptor → Type 0
-SameNames s t d = SameBytes s t (d .name) × SameBytes s t (d .«grid_type»)
+SameNames s t d = SameBytes s t (d .name) × SameBytes s t (d .«instance_parent»)
 
 pub descriptor-again :
     (s t : List ℕ) (h : ArchiveHeader) (at : ℕ) →
@@ -70,9 +70,10 @@ descriptor-again s t h at = then-always _ _ _ λ names p e. then-always _ _ _ λ
     let d = lookup-reads {t = t} {lo = places .«grid_pos»} _ .after half n i c in
     let row : Same s t at q = rw (positions-end s p places q f, names-end s at names p e) (u .row) in
     let start : Same s t at p = part row (omega arith) b in
-    let near : Same s t (places .«grid_pos») m = part (u .content) (omega arith) d in (
+    let near : Same s t (places .«grid_pos») m = part (u .content) (omega arith) d in
+    let same = names-tells {t = t} .tells names p e (omega arith) start in (
       then-got _ (names-tells .reads .again names p e (omega arith) start) (then-got _ (positions-reads .again places q f a row)
-          (then-got _ (flags-reads _ _ .again flags m g (omega arith) near) (then-got _ (lookup-reads _ .again half n i c (u .content)) refl))),
-      names-tells .tells names p e (omega arith) start,
+          (then-got _ (flags-reads _ _ .again flags m g (omega arith) near) (then-got _ (lookup-reads _ .again half n i c (u .content)) (rw (bytes-same (names .«grid_type») (same .1)))))),
+      (same .0, same .2),
       refl,
     )

@@ -6,7 +6,7 @@ use mathlib.Core.Option.{Option, none, some}
 use lib.Dec.{leb, ltb}
 use lib.ListN.{length}
 use Rattle.fields.specs.Parse.{Parse, got, then, when, check}
-use Rattle.fields.specs.Fields.{u32Field, u64Field, stringField, ascii}
+use Rattle.fields.specs.Fields.{u32Field, u64Field, stringField, bytesOf, sameBytes, ascii}
 use Rattle.metadata.specs.Metadata.{lookup}
 use Rattle.metadata.specs.declared.Entry.{Entry}
 use Rattle.metadata.specs.declared.MetadataValue.{MetadataValue}
@@ -16,6 +16,8 @@ use Rattle.descriptor.specs.declared.GridNames.{GridNames}
 use Rattle.descriptor.specs.declared.GridPositions.{GridPositions}
 use Rattle.descriptor.specs.declared.HalfEntry.{HalfEntry}
 use Rattle.descriptor.specs.declared.HalfEntry.the-variants as Half
+use Rattle.descriptor.specs.declared.TreeKind.{TreeKind}
+use Rattle.descriptor.specs.declared.TreeKind.the-variants as Tree
 use Rattle.descriptor.specs.declared.GridDescriptor.{GridDescriptor}
 
 -- a descriptor's three names: of the grid, of its type, of its parent
@@ -64,6 +66,10 @@ unfoldable pub halfEntry : Option Entry → HalfEntry
 halfEntry none = Half.Nothing
 halfEntry (some e) = halfBy (e .value)
 
+-- Check 12 asks which tree a type's name stands for: one of floats, one of floats with the ending that tells of halves, or another.
+unfoldable pub treeKind : List ℕ → TreeKind
+treeKind name = when (sameBytes name (ascii "Tree_float_5_4_3")) Tree.Float (when (sameBytes name (ascii "Tree_float_5_4_3_HalfFloat")) Tree.HalfFloat Tree.Other)
+
 -- A descriptor: names and positions in a row; flags and metadata at the grid position; `tree_pos` is behind these. The next descriptor stands at the
 -- end position.
 unfoldable pub descriptor : List ℕ → ArchiveHeader → ℕ → Parse GridDescriptor
@@ -80,6 +86,7 @@ descriptor s h at =
       «block_pos» = places .«block_pos»;
       «end_pos» = places .«end_pos»;
       compression = flags;
+      kind = treeKind (bytesOf s (names .«grid_type»));
       half = halfEntry half;
       «meta_pos» = m;
       «tree_pos» = n;

@@ -4,7 +4,7 @@ ghost use Rattle.fields.specs.Fields.{ascii};
 ghost use Rattle.metadata.specs.Metadata.{lookup};
 ghost use Rattle.metadata.specs.Inner.{saysFoundEntry, saysMetadata};
 ghost use Rattle.header.specs.Inner.{saysNumber};
-ghost use Rattle.descriptor.specs.Descriptor.{namesField, positionField, positionsField, flagsField, halfBy, halfEntry, descriptor};
+ghost use Rattle.descriptor.specs.Descriptor.{namesField, positionField, positionsField, flagsField, halfBy, halfEntry, treeKind, descriptor};
 ghost use Rattle.descriptor.specs.Inner.{saysNames, saysPosition, saysPositions, saysDescriptor};
 use fields::Span;
 use fields::SpanField;
@@ -35,6 +35,13 @@ pub enum HalfEntry {
     Nothing,
 }
 
+// Which tree the name of a grid's type stands for: one of floats, one of floats that are stored as halves, or another.
+pub enum TreeKind {
+    Float,
+    HalfFloat,
+    Other,
+}
+
 // A grid's descriptor with its flags; meta_pos is where its metadata starts, tree_pos where what follows it starts.
 pub struct GridDescriptor {
     pub name: Span,
@@ -44,6 +51,7 @@ pub struct GridDescriptor {
     pub block_pos: usize,
     pub end_pos: usize,
     pub compression: u32,
+    pub kind: TreeKind,
     pub half: HalfEntry,
     pub meta_pos: usize,
     pub tree_pos: usize,
@@ -188,6 +196,19 @@ fn read_half(s: &[u8], at: usize) -> MetadataField
     metadata::read_metadata(s, b"is_saved_as_half_float", at)
 }
 
+// The tree that the type's name stands for.
+fn tree_kind(name: &[u8]) -> TreeKind
+    ensures { λ r. ⌜ r ≡ treeKind (now (name .entry)) ⌝ }
+{
+    if fields::same_bytes(name, b"Tree_float_5_4_3") {
+        return TreeKind::Float;
+    }
+    if fields::same_bytes(name, b"Tree_float_5_4_3_HalfFloat") {
+        return TreeKind::HalfFloat;
+    }
+    TreeKind::Other
+}
+
 // A descriptor: names and positions in a row; flags and metadata at the grid position.
 pub fn read_descriptor(s: &[u8], h: ArchiveHeader, at: usize) -> DescriptorField
     ensures { λ r. ⌜ saysDescriptor r ≡ descriptor (now (s .entry)) h at ⌝ }
@@ -204,6 +225,7 @@ pub fn read_descriptor(s: &[u8], h: ArchiveHeader, at: usize) -> DescriptorField
                         let name = names.name;
                         let grid_type = names.grid_type;
                         let instance_parent = names.instance_parent;
+                        let kind = tree_kind(fields::bytes_of(s, grid_type));
                         let half = half_of(found);
                         let d = GridDescriptor {
                             name,
@@ -213,6 +235,7 @@ pub fn read_descriptor(s: &[u8], h: ArchiveHeader, at: usize) -> DescriptorField
                             block_pos: w.block_pos,
                             end_pos: w.end_pos,
                             compression: flags,
+                            kind,
                             half,
                             meta_pos: m,
                             tree_pos: n,

@@ -1,4 +1,3 @@
-pub mod Laws
-pub mod Leaves
 pub mod Coverage
+pub mod Laws
 pub mod Agree

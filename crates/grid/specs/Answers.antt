@@ -1,24 +1,9 @@
--- What the answers of the public calls say.
-use Prim.Native.Nat.{ℕ}
-use mathlib.Core.List.{List}
-use mathlib.Core.Path.{_≡_}
+-- What the answer of opening a grid says.
 use Rattle.archive.specs.Answer.{Answer, gives, refuses}
 use Rattle.grid.specs.declared.OpenedGrid.{OpenedGrid}
 use Rattle.grid.specs.declared.GridAnswer.{GridAnswer}
 use Rattle.grid.specs.declared.GridAnswer.the-variants.{Grid as GridIs, Refused as GridRefused}
-use Rattle.grid.specs.declared.FillAnswer.{FillAnswer}
-use Rattle.grid.specs.declared.FillAnswer.the-variants.{Filled as IsFilled, Refused as FillRefused}
 
 abbrev pub saysGridAnswer : GridAnswer → Answer OpenedGrid
 saysGridAnswer (GridIs g) = gives g
 saysGridAnswer (GridRefused k) = refuses k
-
--- a fill's answer: where it is filled, what the slots hold at the end; `keptBy` below says what they hold where it is refused
-abbrev pub saysFill : FillAnswer → List ℕ → Answer (List ℕ)
-saysFill IsFilled slots = gives slots
-saysFill (FillRefused k) slots = refuses k
-
--- a refused call leaves the slots as they were: their content before it, and after it
-abbrev pub keptBy : FillAnswer → List ℕ → List ℕ → Type 0
-keptBy IsFilled before after = Unit {0}
-keptBy (FillRefused k) before after = after ≡ before

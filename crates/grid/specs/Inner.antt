@@ -1,89 +1,87 @@
 -- Inner matter: only contracts of inner functions cite it, and nothing here has to be believed.
-use Prim.Native.Nat.{ℕ, _+_}
-use mathlib.Core.List.{List}
-use mathlib.Core.Option.{Option}
+use Prim.Native.Nat.{ℕ}
+use mathlib.Core.List.{List, []}
+use mathlib.Core.Bool.{not}
+use lib.Dec.{eqb}
 use lib.ListN.{length}
-use Rattle.fields.specs.Parse.{Parse, got, then}
+use Rattle.fields.specs.Parse.{Parse, got, then, check}
 use Rattle.archive.specs.Answer.{Answer, gives, refuses, with}
 use Rattle.header.specs.declared.ArchiveHeader.{ArchiveHeader}
 use Rattle.descriptor.specs.declared.GridDescriptor.{GridDescriptor}
 use Rattle.archive.specs.declared.Asked.{Asked}
-use Rattle.transform.specs.Transform.{transform}
 use Rattle.transform.specs.declared.Map.{Map}
-use Rattle.values.specs.declared.Coding.{Coding}
-use Rattle.nodes.specs.declared.Block.{Block}
-use Rattle.tree.specs.Active.{allBlocks}
-use Rattle.tree.specs.Inner.{Summary, Traversed, traversal, saysLeaf}
+use Rattle.roots.specs.declared.TreeHead.{TreeHead}
+use Rattle.tree.specs.Topology.{rootsField}
+use Rattle.tree.specs.Blocks.{blocksField}
+use Rattle.tree.specs.Active.{activeList, allBlocks}
 use Rattle.place.specs.Inner.{freshPlace}
-use Rattle.grid.specs.Grid.{Grid, rootLimit, gridField, grid, activeOf, leafNumbered}
+use Rattle.grid.specs.Grid.{Grid, codingOf, contentField, gridField, grid, startOf}
 use Rattle.grid.specs.declared.Content.{Content}
 use Rattle.grid.specs.declared.OpenedGrid.{OpenedGrid}
-use Rattle.grid.specs.declared.FoundAnswer.{FoundAnswer}
-use Rattle.grid.specs.declared.FoundAnswer.the-variants.{Got as GotFound, Refused as RefusedFound}
+use Rattle.grid.specs.declared.ContentAnswer.{ContentAnswer}
+use Rattle.grid.specs.declared.ContentAnswer.the-variants.{Got as GotContent, Refused as RefusedContent}
 
--- a grid's content: what opening hands out, with what a walk starts from in place of a place
-abbrev pub contentOf : Grid → ℕ → Content
-contentOf g n = record {
-  coding = g .coding;
+-- all that opening a grid finds, which a walk starts from
+abbrev pub contentOf : List ℕ → Grid → Content
+contentOf s g = record {
+  header = g .header;
+  own = g .own;
+  tree = g .tree;
   transform = g .map;
   «transform_end» = g .mapEnd;
-  background = g .tree .head .background;
-  «active_count» = n;
+  «topology_end» = g .treeEnd;
   «leaf_count» = length (allBlocks (g .filled));
-  «roots_pos» = g .tree .head .«roots_pos»;
-  «root_count» = g .tree .head .«root_count»;
-  «block_pos» = g .block;
+  start = startOf s g;
 }
+
+-- the same from what is known once topology and blocks are passed
+abbrev pub contentWith : ArchiveHeader → GridDescriptor → Map → ℕ → TreeHead → ℕ → ℕ → ℕ → Content
+contentWith h d map mapEnd head treeEnd records leaves = record {
+  header = h;
+  own = d;
+  tree = d;
+  transform = map;
+  «transform_end» = mapEnd;
+  «topology_end» = treeEnd;
+  «leaf_count» = leaves;
+  start = record {
+    coding = codingOf h d head;
+    «tiles_pos» = head .«tiles_pos»;
+    «tile_count» = head .«tile_count»;
+    «roots_pos» = head .«roots_pos»;
+    «root_count» = head .«root_count»;
+    «block_pos» = d .«block_pos»;
+    length = records;
+  };
+}
+
+-- what is found from the roots on, from the transform on, and from the descriptor on
+unfoldable pub readTree : List ℕ → ArchiveHeader → GridDescriptor → Map → ℕ → TreeHead → ℕ → Parse Content
+readTree s h d map mapEnd head at =
+    then (rootsField s (codingOf h d head) (head .«root_count») [] at) λ roots r.
+    then (blocksField s (codingOf h d head) roots (d .«block_pos»)) λ filled v.
+    got (contentWith h d map mapEnd head r (length (activeList s (codingOf h d head) filled)) (length (allBlocks filled))) v
+
+unfoldable pub readContent : List ℕ → ArchiveHeader → GridDescriptor → Parse Content
+readContent s h d = then (contentField s h d) λ g n. got (contentOf s g) n
+
+unfoldable pub readGrid : List ℕ → ArchiveHeader → GridDescriptor → Parse Content
+readGrid s h d = then (gridField s h d) λ g n. got (contentOf s g) n
+
+unfoldable pub look : List ℕ → Asked → List ℕ → Answer Content
+look s asked name = with (grid s asked name) λ g. gives (contentOf s g)
+
+abbrev pub saysContent : ContentAnswer → Answer Content
+saysContent (GotContent c) = gives c
+saysContent (RefusedContent k) = refuses k
 
 -- the opened grid of this content
 abbrev pub openedBy : Content → OpenedGrid
 openedBy c = record {
   transform = c .transform;
   «transform_end» = c .«transform_end»;
-  background = c .background;
-  «active_count» = c .«active_count»;
+  background = c .start .coding .background;
+  «active_count» = c .start .length;
   «leaf_count» = c .«leaf_count»;
-  place = freshPlace (c .coding) (c .«roots_pos») (c .«root_count») (c .«block_pos») (c .«active_count»);
+  place = freshPlace (c .start);
 }
-
--- a grid's content, and the leaf that was wanted of it
-pub record Looked : Type 0 where
-  pub content : Content
-  pub leaf : Option Block
-
-abbrev pub looked : List ℕ → ℕ → Grid → Looked
-looked s wanted g = record { content = contentOf g (length (activeOf s g)); leaf = leafNumbered wanted (g .filled) }
-
--- the same from what one pass over topology and blocks keeps
-abbrev pub passedOf : Coding → Map → ℕ → ℕ → Traversed → Summary → Looked
-passedOf c map end block t m = record {
-  content = record {
-    coding = c;
-    transform = map;
-    «transform_end» = end;
-    background = t .head .background;
-    «active_count» = t .totals .activeTiles + m .voxels;
-    «leaf_count» = m .leaves;
-    «roots_pos» = t .head .«roots_pos»;
-    «root_count» = t .head .«root_count»;
-    «block_pos» = block;
-  };
-  leaf = m .found;
-}
-
-unfoldable pub passedField : List ℕ → Coding → GridDescriptor → ℕ → Parse Looked
-passedField s c d wanted =
-    then (transform s (d .«tree_pos»)) λ map p.
-    then (traversal s c rootLimit wanted (d .«block_pos») p) λ t q.
-    then (t .totals .blocks) λ m r.
-    got (passedOf c map p (d .«block_pos») t m) r
-
-unfoldable pub lookField : List ℕ → ArchiveHeader → GridDescriptor → ℕ → Parse Looked
-lookField s h d wanted = then (gridField s h d) λ g n. got (looked s wanted g) n
-
-unfoldable pub look : List ℕ → Asked → List ℕ → ℕ → Answer Looked
-look s asked name wanted = with (grid s asked name) λ g. gives (looked s wanted g)
-
-abbrev pub saysLooked : FoundAnswer → Answer Looked
-saysLooked (GotFound f) = gives (record { content = f .content; leaf = saysLeaf (f .leaf) })
-saysLooked (RefusedFound k) = refuses k

@@ -1,27 +1,27 @@
-// Sections 7 and 8 of document 01: opening a grid by its name or its number, and the leaf fill.
+// Sections 7 and 8 of document 01: opening a grid by its name or its number.
 ghost use mathlib.Core.Path.{_≡_};
-ghost use Prim.Native.Nat.{_+_, _≤_, _<_};
-ghost use lib.ListN.{length};
+ghost use Prim.Native.Nat.{_≤_};
 ghost use Rattle.fields.specs.Parse.{then, got};
 ghost use Rattle.archive.specs.Answer.{answer};
 ghost use Rattle.half.specs.Inner.{isWidth};
-ghost use Rattle.tree.specs.Inner.{saysPassed, traversed};
-ghost use Rattle.grid.specs.Grid.{isFloatTree, isPacked, widthOf, codingOf, openGrid, openGridNamed, openGridNumbered, fillLeaf, fillLeafNamed, fillLeafNumbered};
-ghost use Rattle.grid.specs.Inner.{passedOf, passedField, lookField, look, saysLooked, openedBy};
-ghost use Rattle.grid.specs.Answers.{saysGridAnswer, saysFill, keptBy};
+ghost use Rattle.grid.specs.Grid.{isFloatTree, widthOf, codingOf, openGrid, openGridNamed, openGridNumbered};
+ghost use Rattle.grid.specs.Inner.{contentWith, readTree, readContent, readGrid, look, saysContent, openedBy};
+ghost use Rattle.grid.specs.Answers.{saysGridAnswer};
 use archive::Asked;
 use archive::FileAnswer;
 use archive::FoundGrid;
 use descriptor::GridDescriptor;
 use descriptor::HalfEntry;
+use descriptor::TreeKind;
 use header::ArchiveHeader;
+use nodes::EndField;
 use place::Place;
+use place::Start;
+use roots::TreeHead;
+use roots::TreeHeadField;
+use skip::Skipped;
 use transform::Map;
 use transform::MapField;
-use tree::BlocksAt;
-use tree::FoundLeaf;
-use tree::Topology;
-use tree::TopologyField;
 use values::Coding;
 
 // An opened grid: its transform and where that ends, its background's pattern, the length of its active list, how many leaves it has, and the place of a
@@ -35,17 +35,22 @@ pub struct OpenedGrid {
     pub place: Place,
 }
 
-// The same with what a walk starts from in place of a place: how values are stored, and where the roots and the blocks start.
+// All that opening a grid finds: the file's header, the grid's own descriptor and that of the grid whose tree it has, its transform, where transform and
+// topology end, how many leaves there are, and what a walk starts from.
 pub struct Content {
-    pub coding: Coding,
+    pub header: ArchiveHeader,
+    pub own: GridDescriptor,
+    pub tree: GridDescriptor,
     pub transform: Map,
     pub transform_end: usize,
-    pub background: u32,
-    pub active_count: u64,
+    pub topology_end: usize,
     pub leaf_count: u64,
-    pub roots_pos: usize,
-    pub root_count: u32,
-    pub block_pos: usize,
+    pub start: Start,
+}
+
+pub enum ContentAnswer {
+    Got(Content),
+    Refused(u32),
 }
 
 pub enum GridAnswer {
@@ -53,38 +58,14 @@ pub enum GridAnswer {
     Refused(u32),
 }
 
-pub enum FillAnswer {
-    Filled,
-    Refused(u32),
-}
-
-// A grid's content, with the leaf that was wanted.
-pub struct Found {
-    pub content: Content,
-    pub leaf: FoundLeaf,
-}
-
-pub enum FoundAnswer {
-    Got(Found),
-    Refused(u32),
-}
-
-fn is_float_tree(t: &[u8]) -> bool
-    ensures { λ r. ⌜ r ≡ isFloatTree (now (t .entry)) ⌝ }
+fn is_float_tree(kind: TreeKind) -> bool
+    ensures { λ r. ⌜ r ≡ isFloatTree kind ⌝ }
 {
-    if fields::same_bytes(t, b"Tree_float_5_4_3") {
-        return true;
+    match kind {
+        TreeKind::Float => true,
+        TreeKind::HalfFloat => true,
+        TreeKind::Other => false,
     }
-    fields::same_bytes(t, b"Tree_float_5_4_3_HalfFloat")
-}
-
-fn is_packed(flags: u32) -> bool
-    ensures { λ r. ⌜ r ≡ isPacked flags ⌝ }
-{
-    if flags % 2 == 1 {
-        return true;
-    }
-    flags / 4 % 2 == 1
 }
 
 // The width of a stored value, by the grid's half entry.
@@ -102,90 +83,126 @@ fn width_of(half: HalfEntry) -> usize
     }
 }
 
-fn coding_of(h: ArchiveHeader, d: GridDescriptor) -> Coding
-    ensures { λ r. ⌜ (r ≡ codingOf h d) × isWidth (r .width) ⌝ }
+fn coding_of(h: ArchiveHeader, d: GridDescriptor, head: TreeHead) -> Coding
+    ensures { λ r. ⌜ (r ≡ codingOf h d head) × isWidth (r .width) ⌝ }
 {
     let half = d.half;
     Coding {
         version: h.file_version,
         flags: d.compression,
         width: width_of(half),
+        background: head.background,
     }
 }
 
-// Transform, topology and blocks of this descriptor's grid, with the leaf of the wanted number. The topology's checks come before those of all
-// blocks, which are passed beside it.
-fn read_content(s: &[u8], c: Coding, d: GridDescriptor, wanted: u64) -> FoundAnswer
-    requires { ⌜ (length (now s) ≤ 2147483647) × isWidth (c .width) ⌝ }
-    ensures { λ r. ⌜ saysLooked r ≡ answer (passedField (now (s .entry)) c d wanted) ⌝ }
+// What is found of a grid whose topology ends there, with so many records and leaves.
+fn content_with(
+    h: ArchiveHeader,
+    d: GridDescriptor,
+    map: Map,
+    transform_end: usize,
+    head: TreeHead,
+    topology_end: usize,
+    records: u64,
+    leaf_count: u64,
+) -> Content
+    ensures { λ r. ⌜ r ≡ contentWith h d map «transform_end» head «topology_end» records «leaf_count» ⌝ }
 {
-    let block_pos = d.block_pos;
-    match transform::read_transform(s, d.tree_pos) {
-        MapField::Refused(k) => FoundAnswer::Refused(k),
-        MapField::Got(map, p) => match tree::read_tree_topology(s, c, 256, wanted, block_pos, p) {
-            TopologyField::Refused(k) => FoundAnswer::Refused(k),
-            TopologyField::Got(t) => found_in(c, map, p, block_pos, t),
-        },
+    let coding = coding_of(h, d, head);
+    let start = Start {
+        coding,
+        tiles_pos: head.tiles_pos,
+        tile_count: head.tile_count,
+        roots_pos: head.roots_pos,
+        root_count: head.root_count,
+        block_pos: d.block_pos,
+        length: records,
+    };
+    Content {
+        header: h,
+        own: d,
+        tree: d,
+        transform: map,
+        transform_end,
+        topology_end,
+        leaf_count,
+        start,
     }
 }
 
-// What is handed out of a pass, unless a block was refused.
-fn found_in(c: Coding, map: Map, end: usize, block_pos: usize, t: Topology) -> FoundAnswer
-    requires { ⌜ t .pass .«active_tiles» + t .pass .blocks .voxels < 18446744073709551616 ⌝ }
-    ensures { λ r. ⌜ saysLooked r ≡ answer (then (saysPassed (t .pass .blocks)) λ m n. got (passedOf c map end «block_pos» (traversed t) m) n) ⌝ }
+// The tree behind this head: its topology, and then all its blocks. No tree has as many records or leaves as may be passed here, so the pass goes on to the
+// end, or to a block that is refused.
+fn read_tree(
+    s: &[u8],
+    h: ArchiveHeader,
+    d: GridDescriptor,
+    map: Map,
+    end: usize,
+    head: TreeHead,
+) -> ContentAnswer
+    requires { ⌜ head .«root_count» ≤ 256 ⌝ }
+    ensures { λ r. ⌜ saysContent r ≡ answer (readTree (now (s .entry)) h d map end head (head .«roots_pos»)) ⌝ }
 {
-    let head = t.head;
-    let pass = t.pass;
-    let blocks = pass.blocks;
-    let state = blocks.at;
-    let leaf = blocks.found;
-    match state {
-        BlocksAt::Refused(k) => FoundAnswer::Refused(k),
-        BlocksAt::At(_) => {
-            let content = Content {
-                coding: c,
-                transform: map,
-                transform_end: end,
-                background: head.background,
-                active_count: pass.active_tiles + blocks.voxels,
-                leaf_count: blocks.leaves,
-                roots_pos: head.roots_pos,
-                root_count: head.root_count,
-                block_pos,
-            };
-            FoundAnswer::Got(Found { content, leaf })
+    let coding = coding_of(h, d, head);
+    let count = head.root_count;
+    let at = head.roots_pos;
+    match tree::pass_roots(s, coding, count, at) {
+        EndField::Refused(k) => ContentAnswer::Refused(k),
+        EndField::Got(topology_end) => {
+            let first = cursor::between_roots(count, at, d.block_pos);
+            let most: u64 = 0xffff_ffff_ffff_ffff;
+            match skip::skip(s, coding, first, most, most) {
+                Skipped::Refused(k) => ContentAnswer::Refused(k),
+                Skipped::Before(_, _, _, _) => ContentAnswer::Refused(2),
+                Skipped::End(n, k) => {
+                    let c = content_with(h, d, map, end, head, topology_end, most - n, most - k);
+                    ContentAnswer::Got(c)
+                }
+            }
         }
     }
 }
 
-// The grid of this descriptor, with the leaf of the wanted number.
-fn read_grid(s: &[u8], h: ArchiveHeader, d: GridDescriptor, wanted: u64) -> FoundAnswer
-    requires { ⌜ length (now s) ≤ 2147483647 ⌝ }
-    ensures { λ r. ⌜ saysLooked r ≡ answer (lookField (now (s .entry)) h d wanted) ⌝ }
+// Transform, topology and blocks of this descriptor's grid. What stands before the roots is read first, as it tells how values are stored.
+fn read_content(s: &[u8], h: ArchiveHeader, d: GridDescriptor) -> ContentAnswer
+    ensures { λ r. ⌜ saysContent r ≡ answer (readContent (now (s .entry)) h d) ⌝ }
 {
-    let grid_type = d.grid_type;
-    let parent = d.instance_parent;
-    if !is_float_tree(fields::bytes_of(s, grid_type)) {
-        return FoundAnswer::Refused(12);
+    match transform::read_transform(s, d.tree_pos) {
+        MapField::Refused(k) => ContentAnswer::Refused(k),
+        MapField::Got(map, p) => match roots::read_tree_head(s, 256, p) {
+            TreeHeadField::Refused(k) => ContentAnswer::Refused(k),
+            TreeHeadField::Got(head) => read_tree(s, h, d, map, p, head),
+        },
     }
-    if parent.len != 0 {
-        return FoundAnswer::Refused(13);
-    }
-    if is_packed(d.compression) {
-        return FoundAnswer::Refused(6);
-    }
-    read_content(s, coding_of(h, d), d, wanted)
 }
 
-// The grid that is asked for, opened, with the leaf of the wanted number.
-fn look_at(s: &[u8], asked: Asked, name: &[u8], wanted: u64) -> FoundAnswer
-    ensures { λ r. ⌜ saysLooked r ≡ look (now (s .entry)) asked (now (name .entry)) wanted ⌝ }
+// The grid of this descriptor.
+fn read_grid(s: &[u8], h: ArchiveHeader, d: GridDescriptor) -> ContentAnswer
+    ensures { λ r. ⌜ saysContent r ≡ answer (readGrid (now (s .entry)) h d) ⌝ }
+{
+    let kind = d.kind;
+    let parent = d.instance_parent;
+    if !is_float_tree(kind) {
+        return ContentAnswer::Refused(12);
+    }
+    if parent.len != 0 {
+        return ContentAnswer::Refused(13);
+    }
+    if values::is_packed(d.compression) {
+        return ContentAnswer::Refused(6);
+    }
+    read_content(s, h, d)
+}
+
+// The grid that is asked for, with all that opening it finds.
+pub fn look(s: &[u8], asked: Asked, name: &[u8]) -> ContentAnswer
+    ensures { λ r. ⌜ saysContent r ≡ look (now (s .entry)) asked (now (name .entry)) ⌝ }
 {
     match archive::read_file(s, asked, name) {
-        FileAnswer::Refused(k) => FoundAnswer::Refused(k),
+        FileAnswer::Refused(k) => ContentAnswer::Refused(k),
         FileAnswer::Got(h, found) => match found {
-            FoundGrid::Nothing => FoundAnswer::Refused(11),
-            FoundGrid::At(d) => read_grid(s, h, d, wanted),
+            FoundGrid::Nothing => ContentAnswer::Refused(11),
+            FoundGrid::At(d) => read_grid(s, h, d),
         },
     }
 }
@@ -195,19 +212,14 @@ fn opened(content: Content) -> OpenedGrid
     ensures { λ r. ⌜ r ≡ openedBy content ⌝ }
 {
     let transform = content.transform;
-    let coding = content.coding;
-    let place = place::fresh(
-        coding,
-        content.roots_pos,
-        content.root_count,
-        content.block_pos,
-        content.active_count,
-    );
+    let start = content.start;
+    let coding = start.coding;
+    let place = place::fresh(start);
     OpenedGrid {
         transform,
         transform_end: content.transform_end,
-        background: content.background,
-        active_count: content.active_count,
+        background: coding.background,
+        active_count: start.length,
         leaf_count: content.leaf_count,
         place,
     }
@@ -217,12 +229,9 @@ fn opened(content: Content) -> OpenedGrid
 pub fn open_grid(s: &[u8], asked: Asked, name: &[u8]) -> GridAnswer
     ensures { λ r. ⌜ saysGridAnswer r ≡ openGrid (now (s .entry)) asked (now (name .entry)) ⌝ }
 {
-    match look_at(s, asked, name, 0) {
-        FoundAnswer::Refused(k) => GridAnswer::Refused(k),
-        FoundAnswer::Got(f) => {
-            let content = f.content;
-            GridAnswer::Grid(opened(content))
-        }
+    match look(s, asked, name) {
+        ContentAnswer::Refused(k) => GridAnswer::Refused(k),
+        ContentAnswer::Got(content) => GridAnswer::Grid(opened(content)),
     }
 }
 
@@ -238,44 +247,4 @@ pub fn open_grid_numbered(s: &[u8], n: u32) -> GridAnswer
     ensures { λ r. ⌜ saysGridAnswer r ≡ openGridNumbered (now (s .entry)) n ⌝ }
 {
     open_grid(s, Asked::ByNumber(n), b"")
-}
-
-// Writes the 512 values of a leaf of the grid that is asked for. A refused call leaves the slots as they were.
-fn fill_asked(s: &[u8], asked: Asked, name: &[u8], number: u64, slots: &mut [u32]) -> FillAnswer
-    ensures { λ r. ⌜ (saysFill r (now (slots .exit)) ≡ fillLeaf (now (s .entry)) asked (now (name .entry)) number (length (now (slots .entry)))) × keptBy r (now (slots .entry)) (now (slots .exit)) ⌝ }
-{
-    match look_at(s, asked, name, number) {
-        FoundAnswer::Refused(k) => FillAnswer::Refused(k),
-        FoundAnswer::Got(f) => {
-            let leaf = f.leaf;
-            let content = f.content;
-            let coding = content.coding;
-            match leaf {
-                FoundLeaf::Nothing => FillAnswer::Refused(21),
-                FoundLeaf::At(b) => {
-                    if slots.len() != 512 {
-                        return FillAnswer::Refused(21);
-                    }
-                    let mask = b.mask;
-                    let values = b.values;
-                    values::fill_leaf(s, coding, mask, values, slots);
-                    FillAnswer::Filled
-                }
-            }
-        }
-    }
-}
-
-// Writes the 512 values of a leaf, by its number from 0 in topology order, of the grid of this name.
-pub fn fill_leaf_named(s: &[u8], name: &[u8], number: u64, slots: &mut [u32]) -> FillAnswer
-    ensures { λ r. ⌜ (saysFill r (now (slots .exit)) ≡ fillLeafNamed (now (s .entry)) (now (name .entry)) number (length (now (slots .entry)))) × keptBy r (now (slots .entry)) (now (slots .exit)) ⌝ }
-{
-    fill_asked(s, Asked::ByName, name, number, slots)
-}
-
-// The same for the grid with this number, from 0.
-pub fn fill_leaf_numbered(s: &[u8], n: u32, number: u64, slots: &mut [u32]) -> FillAnswer
-    ensures { λ r. ⌜ (saysFill r (now (slots .exit)) ≡ fillLeafNumbered (now (s .entry)) n number (length (now (slots .entry)))) × keptBy r (now (slots .entry)) (now (slots .exit)) ⌝ }
-{
-    fill_asked(s, Asked::ByNumber(n), b"", number, slots)
 }

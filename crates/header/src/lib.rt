@@ -61,7 +61,7 @@ pub fn read_magic(s: &[u8], at: usize) -> MagicField
     match fields::read_bytes(s, at, 8) {
         SpanField::Past => MagicField::Refused(2),
         SpanField::Got(m, p) => {
-            if metadata::has_bytes(s, m, b" BDV\0\0\0\0") {
+            if fields::has_bytes(s, m, b" BDV\0\0\0\0") {
                 return MagicField::Got(p);
             }
             MagicField::Refused(3)

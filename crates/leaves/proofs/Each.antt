@@ -19,8 +19,8 @@ use Rattle.values.specs.declared.Values.{Values}
 use Rattle.nodes.specs.declared.Block.{Block}
 use Rattle.tree.specs.Active.{joined, allBlocks}
 use Rattle.coordinates.proofs.Axis.{and-both}
-use Rattle.grid.specs.Grid.{grid, presentLeaf, fillLeaf}
-use Rattle.leaves.specs.Leaves.{fillLeaves}
+use Rattle.grid.specs.Grid.{grid}
+use Rattle.leaves.specs.Leaves.{presentLeaf, fillLeaf, fillLeaves}
 
 -- a leaf has 512 values
 values-length : (s : List ℕ) (c : Coding) (child value : ℕ) (v : Values) (p k : ℕ) → length (valuesFrom s c child value v p k) ≡ k

@@ -1,3 +1,5 @@
 mod Laws
+mod Next
 mod Tree
 pub mod Each
+pub mod Agree

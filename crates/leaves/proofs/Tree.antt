@@ -1,42 +1,42 @@
--- The leaves that a cursor hands out from the start on are the tree's.
+-- The leaves that a cursor hands out from the start on are the tree's; a fill is a run of these.
 use mathlib.Core.Path.{_≡_, refl, sym, ap, subst, _∙_}
 use mathlib.Core.List.{List, [], _∷_, _++_, map, map-append, append-nil}
 use mathlib.Core.Bool.{Bool, true, false, _&&_}
-use Prim.Native.Nat.{ℕ, zero, suc, _-_, _/_, _%_}
+use mathlib.Core.Option.{Option, none, some}
+use Prim.Native.Nat.{ℕ, zero, suc, _-_, _/_, _%_, _≤_}
+use native.Mathlib.Omega.{arith}
 use lib.Dec.{eqb, leb}
-use lib.ListN.{length, take, drop}
-use borrow.Author.Tests.{eq-eqb, ne-eqb, leb-true}
+use lib.ListN.{length, take, drop, getElem?}
+use borrow.Author.Tests.{le-leb, lt-leb, leb-true, eqb-true}
 use Rattle.fields.specs.Parse.{when}
-use Rattle.fields.proofs.Agree.{Each}
 use Rattle.fields.proofs.Laws.{when-true, when-false}
 use Rattle.archive.specs.Answer.{Answer, gives, refuses, with}
 use Rattle.archive.specs.declared.Asked.{Asked}
 use Rattle.archive.proofs.Laws.{with-gives, with-back, gives-same}
+use Rattle.coordinates.proofs.Axis.{and-both}
 use Rattle.half.specs.Inner.{isWidth}
 use Rattle.values.specs.Values.{leafValues}
 use Rattle.values.specs.declared.Coding.{Coding}
 use Rattle.nodes.specs.declared.Block.{Block}
 use Rattle.tree.specs.Blocks.{Filled4, Filled5}
 use Rattle.tree.specs.Active.{Piece, joined, leafPiece, piece4, piece5, pieces4, pieces5, pieces, allBlocks}
-use Rattle.cursor.specs.Inner.{Rest, Stop, toCome, betweenRoots}
-use Rattle.cursor.specs.declared.Cursor.{Cursor}
-use Rattle.cursor.proofs.Whole.{whole}
-use Rattle.grid.specs.Grid.{Grid, grid, activeOf, openedOf, openGrid}
+use Rattle.cursor.specs.Inner.{Rest, Stop, toCome}
+use Rattle.cursor.proofs.Whole.{fresh, whole}
+use Rattle.grid.specs.Grid.{Grid, grid, startOf, openedOf, openGrid}
 use Rattle.grid.specs.declared.OpenedGrid.{OpenedGrid}
 use Rattle.grid.specs.Inner.{contentOf, openedBy}
 use Rattle.grid.proofs.Laws.{opened-so}
-use Rattle.grid.proofs.Leaves.{HeldBlock, grid-held}
 use Rattle.grid.proofs.Coverage.{GridRead, grid-read}
-use Rattle.leaves.specs.Leaves.{runValues, fillLeaves}
-use Rattle.leaves.specs.Inner.{leavesIn, leavesFrom, valuesOf, AllHeld, Enough}
+use Rattle.leaves.specs.Leaves.{leafNumbered, presentLeaf, fillLeaf, runValues, fillLeaves}
+use Rattle.leaves.specs.Inner.{rightSlots, startCursor, leavesAmong, leavesFrom, valuesOf, Enough}
 
 -- the leaves among pieces
 abbrev leavesOf : List Piece → List Piece
 leavesOf [] = []
 leavesOf (q ∷ l) = when (eqb (q .level) 0) (q ∷ leavesOf l) (leavesOf l)
 
-of-stops : (ts : List Stop) → leavesIn ts ≡ leavesOf (map (λ t. t .piece) ts)
-unfolding leavesIn
+of-stops : (ts : List Stop) → leavesAmong ts ≡ leavesOf (map (λ t. t .piece) ts)
+unfolding leavesAmong
 of-stops [] = refl
 of-stops (t ∷ ts) = rw (of-stops ts)
 
@@ -83,74 +83,103 @@ of-values s c (b ∷ bs) zero zero = refl
 of-values s c (b ∷ bs) zero (suc n) = ap (λ (x : List ℕ). leafValues s c (b .mask) (b .values) ++ x) (of-values s c bs zero n)
 of-values s c (b ∷ bs) (suc k) n = of-values s c bs k n
 
-of-held : (s : List ℕ) (c : Coding) (bs : List Block) → Each (HeldBlock c s) bs → AllHeld s c (map leafPiece bs)
-of-held s c [] h = tt
-of-held s c (b ∷ bs) h = (h .0, of-held s c bs (h .1))
-
 map-length : (bs : List Block) → length (map leafPiece bs) ≡ length bs
 map-length [] = refl
 map-length (b ∷ bs) = ap suc (map-length bs)
 
 -- the leaves of an opened grid, from its start on
-abbrev start : Grid → ℕ → Cursor
-start g block = betweenRoots (g .tree .head .«root_count») (g .tree .head .«roots_pos») block
-
-of-grid : (s : List ℕ) (g : Grid) → GridRead s g → leavesFrom s (g .coding) (start g (g .block)) ≡ map leafPiece (allBlocks (g .filled))
+of-grid : (s : List ℕ) (g : Grid) → GridRead s g → leavesFrom s (g .coding) (startCursor (startOf s g)) ≡ map leafPiece (allBlocks (g .filled))
 of-grid s g h =
-    ap (λ (b : ℕ). leavesFrom s (g .coding) (start g b)) (sym (h .block))
-    ∙ of-stops (toCome s (g .coding) (start g (h .parsed .block)) .items) ∙ ap (λ (r : Rest Piece). leavesOf (r .items)) (whole (h .parsed)) ∙ of-tree (g .filled)
+    ap (leavesFrom s (g .coding)) (sym (h .start))
+    ∙ of-stops (toCome s (g .coding) (fresh (h .parsed)) .items) ∙ ap (λ (r : Rest Piece). leavesOf (r .items)) (whole (h .parsed)) ∙ of-tree (g .filled)
 
--- the ways out of filling a run
-module _ (s : List ℕ) (asked : Asked) (name : List ℕ) (first slots : ℕ) where
-  pub run-refuses : (k : ℕ) → refuses k ≡ openGrid s asked name → refuses k ≡ fillLeaves s asked name first slots
-  unfolding openGrid fillLeaves with
-  run-refuses k = go (grid s asked name)
+-- A single leaf is a run of one.
+one-run :
+    (f : Block → List ℕ) (bs : List Block) (k : ℕ) →
+    with (presentLeaf (getElem? bs k)) (λ b. gives (f b)) ≡ when (leb 1 (length bs - k)) (gives (joined f (take 1 (drop k bs)))) (refuses 21)
+unfolding presentLeaf with when joined
+one-run f [] k = rw (lt-leb 1 (0 - k) (omega arith))
+one-run f (b ∷ bs) zero = rw (le-leb 1 (suc (length bs) - 0) (omega arith), append-nil)
+one-run f (b ∷ bs) (suc k) =
+    let e : suc (length bs) - suc k ≡ length bs - k = omega arith in
+    rw e (one-run f bs k)
+
+no-leaf : (o : Option Block) → _≡_ {A = Answer (List ℕ)} (with (presentLeaf o) (λ b. refuses 21)) (refuses 21)
+unfolding presentLeaf with
+no-leaf none = refl
+no-leaf (some b) = refl
+
+-- what is asked for: a leaf, or a run of leaves
+abbrev pub filling : List ℕ → Asked → List ℕ → Bool → ℕ → ℕ → Answer (List ℕ)
+filling s asked name single first slots = when single (fillLeaf s asked name first slots) (fillLeaves s asked name first slots)
+
+-- The ways out of a fill.
+module _ (s : List ℕ) (asked : Asked) (name : List ℕ) (single : Bool) (first slots : ℕ) where
+  -- of this grid
+  abbrev runOf : Grid → Answer (List ℕ)
+  runOf g = when (rightSlots single slots && leb (slots / 512) (length (allBlocks (g .filled)) - first)) (gives (runValues s g first (slots / 512))) (refuses 21)
+
+  run-is : filling s asked name single first slots ≡ with (grid s asked name) runOf
+  unfolding fillLeaf fillLeaves when
+  run-is = go single
     where
-      go : (m : Answer Grid) → refuses k ≡ with m (λ g. gives (openedOf s g)) →
-          refuses k
-          ≡ with m (λ g. when (eqb (slots % 512) 0 && leb (slots / 512) (length (allBlocks (g .filled)) - first)) (gives (runValues s g first (slots / 512))) (refuses 21))
+      one : (g : Grid) (t : Bool) → eqb slots 512 ≡ t →
+          with (presentLeaf (leafNumbered first (g .filled))) (λ b. when t (gives (leafValues s (g .coding) (b .mask) (b .values))) (refuses 21))
+          ≡ when (t && leb (slots / 512) (length (allBlocks (g .filled)) - first)) (gives (runValues s g first (slots / 512))) (refuses 21)
+      one g true e = rw (eqb-true slots 512 e) (one-run (λ b. leafValues s (g .coding) (b .mask) (b .values)) (allBlocks (g .filled)) first)
+      one g false e = no-leaf _
+
+      go : (b : Bool) → filling s asked name b first slots ≡ with (grid s asked name) (λ g.
+          when (rightSlots b slots && leb (slots / 512) (length (allBlocks (g .filled)) - first)) (gives (runValues s g first (slots / 512))) (refuses 21))
+      go true = ap (with (grid s asked name)) (λ i g. one g (eqb slots 512) refl i)
+      go false = refl
+
+  pub run-refuses : (k : ℕ) → refuses k ≡ openGrid s asked name → refuses k ≡ filling s asked name single first slots
+  unfolding openGrid with
+  run-refuses k e = go (grid s asked name) e ∙ sym run-is
+    where
+      go : (m : Answer Grid) → refuses k ≡ with m (λ g. gives (openedOf s g)) → refuses k ≡ with m runOf
       go (gives g) e = cc
       go (refuses j) e = cc
 
-  module _ (o : OpenedGrid) (e : gives o ≡ openGrid s asked name) where
-    seen : (g : Grid) × (gives g ≡ grid s asked name) × (o ≡ openedBy (contentOf g (length (activeOf s g))))
+  module _ (o : OpenedGrid) (e : gives o ≡ openGrid s asked name) (t : Bool) (l : t ≡ (rightSlots single slots && leb (slots / 512) (o .«leaf_count» - first))) where
+    seen : (g : Grid) × (gives g ≡ grid s asked name) × (o ≡ openedBy (contentOf s g))
     unfolding openGrid
     seen = let y = with-back (grid s asked name) _ e in (y .0, y .1, gives-same (y .2) ∙ opened-so s (y .0))
 
     abbrev read : GridRead s (seen .0)
     read = grid-read s asked name (seen .1)
 
-    pub run-part : (slots % 512 ≡ 0 → ⊥) → refuses 21 ≡ fillLeaves s asked name first slots
-    unfolding fillLeaves
-    run-part z = with-gives _ (seen .1) (when-false _ (rw (ne-eqb (slots % 512) 0 z) refl) refl)
+    counted : t ≡ (rightSlots single slots && leb (slots / 512) (length (allBlocks (seen .0 .filled)) - first))
+    counted = l ∙ ap (λ (o : OpenedGrid). rightSlots single slots && leb (slots / 512) (o .«leaf_count» - first)) (seen .2)
 
-    module _ (z : slots % 512 ≡ 0) (t : Bool) (l : t ≡ leb (slots / 512) (o .«leaf_count» - first)) where
-      counted : t ≡ leb (slots / 512) (length (allBlocks (seen .0 .filled)) - first)
-      counted = l ∙ ap (λ (o : OpenedGrid). leb (slots / 512) (o .«leaf_count» - first)) (seen .2)
+    pub run-absent : t ≡ false → refuses 21 ≡ filling s asked name single first slots
+    run-absent x = with-gives _ (seen .1) (when-false _ (sym x ∙ counted) refl) ∙ sym run-is
 
-      test : t ≡ (eqb (slots % 512) 0 && leb (slots / 512) (length (allBlocks (seen .0 .filled)) - first))
-      test = rw (eq-eqb (slots % 512) 0 z) counted
+    -- the values of this many leaves from the start on
+    abbrev valuesBy : OpenedGrid → List ℕ
+    valuesBy o = valuesOf s (o .place .start .coding) (leavesFrom s (o .place .start .coding) (startCursor (o .place .start))) first (slots / 512)
 
-      pub run-absent : t ≡ false → refuses 21 ≡ fillLeaves s asked name first slots
-      unfolding fillLeaves
-      run-absent x = with-gives _ (seen .1) (when-false _ (sym x ∙ test) refl)
+    pub run-gives : t ≡ true → gives (valuesBy o) ≡ filling s asked name single first slots
+    run-gives x =
+        with-gives _ (seen .1) (when-true _ (sym x ∙ counted)
+        (ap (λ (o : OpenedGrid). gives (valuesBy o)) (seen .2)
+        ∙ ap gives (ap (λ (l : List Piece). valuesOf s (seen .0 .coding) l first (slots / 512)) (of-grid s (seen .0) read)
+        ∙ of-values s (seen .0 .coding) (allBlocks (seen .0 .filled)) first (slots / 512)))) ∙ sym run-is
 
-      pub run-gives : t ≡ true → gives (valuesOf s (o .place .coding) (leavesFrom s (o .place .coding) (o .place .cursor)) first (slots / 512)) ≡ fillLeaves s asked name first slots
-      unfolding fillLeaves
-      run-gives x =
-          with-gives _ (seen .1) (when-true _ (sym x ∙ test)
-          (ap (λ (o : OpenedGrid). gives (valuesOf s (o .place .coding) (leavesFrom s (o .place .coding) (o .place .cursor)) first (slots / 512))) (seen .2)
-          ∙ ap gives (ap (λ (l : List Piece). valuesOf s (seen .0 .coding) l first (slots / 512)) (of-grid s (seen .0) read)
-          ∙ of-values s (seen .0 .coding) (allBlocks (seen .0 .filled)) first (slots / 512))))
+    -- what filling them asks of an opened grid
+    abbrev Fillable : OpenedGrid → Type 0
+    Fillable o =
+        isWidth (o .place .start .coding .width) × (o .place .start .«root_count» ≤ 256)
+        × Enough (leavesFrom s (o .place .start .coding) (startCursor (o .place .start))) first slots
 
-      pub run-enough : t ≡ true → isWidth (o .place .coding .width) × Enough s (o .place .coding) (leavesFrom s (o .place .coding) (o .place .cursor)) first slots
-      run-enough x =
-          let bs = allBlocks (seen .0 .filled) in
-          let all : Enough s (seen .0 .coding) (map leafPiece bs) first slots = record {
-            whole = z;
-            there = rw map-length (leb-true _ _ (sym counted ∙ x));
-            held = of-held s (seen .0 .coding) bs (grid-held s asked name (seen .0) (seen .1));
-          } in
-          let there : Enough s (seen .0 .coding) (leavesFrom s (seen .0 .coding) (start (seen .0) (seen .0 .block))) first slots = rw (of-grid s (seen .0) read) all in
-          subst (λ (o : OpenedGrid). isWidth (o .place .coding .width) × Enough s (o .place .coding) (leavesFrom s (o .place .coding) (o .place .cursor)) first slots)
-          (sym (seen .2)) (read .width, there)
+    whole-slots : (b : Bool) → rightSlots b slots ≡ true → slots % 512 ≡ 0
+    unfolding when
+    whole-slots true h = let x = eqb-true slots 512 h in omega arith
+    whole-slots false h = eqb-true (slots % 512) 0 h
+
+    pub run-enough : t ≡ true → Fillable o
+    run-enough x =
+        let b = and-both _ _ (sym counted ∙ x) in
+        let n : length (leavesFrom s (seen .0 .coding) (startCursor (startOf s (seen .0)))) ≡ length (allBlocks (seen .0 .filled)) = ap length (of-grid s (seen .0) read) ∙ map-length (allBlocks (seen .0 .filled)) in
+        subst Fillable (sym (seen .2)) (read .width, read .few, record { whole = whole-slots single (b .0); there = rw n (leb-true _ _ (b .1)) })

@@ -1,16 +1,41 @@
--- Section 6: a run of leaves, filled with one opening of the grid.
+-- Section 6: the values of a leaf, and of a run of leaves that are filled with one opening of the grid.
 use Prim.Native.Nat.{ℕ, _-_, _/_, _%_}
 use mathlib.Core.List.{List, []}
 use mathlib.Core.Bool.{_&&_}
+use mathlib.Core.Option.{Option, none, some}
 use lib.Dec.{eqb, leb}
-use lib.ListN.{length, take, drop}
+use lib.ListN.{length, take, drop, getElem?}
 use Rattle.fields.specs.Parse.{when}
 use Rattle.archive.specs.Answer.{Answer, gives, refuses, with}
 use Rattle.archive.specs.declared.Asked.{Asked}
 use Rattle.archive.specs.declared.Asked.the-variants as A
 use Rattle.values.specs.Values.{leafValues}
+use Rattle.nodes.specs.declared.Block.{Block}
+use Rattle.tree.specs.Blocks.{Filled5}
 use Rattle.tree.specs.Active.{joined, allBlocks}
 use Rattle.grid.specs.Grid.{Grid, grid}
+
+-- a leaf by its number from 0, in the order of the topology
+abbrev pub leafNumbered : ℕ → List Filled5 → Option Block
+leafNumbered k filled = getElem? (allBlocks filled) k
+
+-- check 21: there is such a leaf
+unfoldable pub presentLeaf : Option Block → Answer Block
+presentLeaf (some b) = gives b
+presentLeaf none = refuses 21
+
+-- section 6: the fill opens the grid, then comes check 21, for the leaf and for the number of slots; it leaves the leaf's values in these
+unfoldable pub fillLeaf : List ℕ → Asked → List ℕ → ℕ → ℕ → Answer (List ℕ)
+fillLeaf s asked name k slots =
+    with (grid s asked name) λ g.
+    with (presentLeaf (leafNumbered k (g .filled))) λ b.
+    when (eqb slots 512) (gives (leafValues s (g .coding) (b .mask) (b .values))) (refuses 21)
+
+abbrev pub fillLeafNamed : List ℕ → List ℕ → ℕ → ℕ → Answer (List ℕ)
+fillLeafNamed s name k slots = fillLeaf s A.ByName name k slots
+
+abbrev pub fillLeafNumbered : List ℕ → ℕ → ℕ → ℕ → Answer (List ℕ)
+fillLeafNumbered s n k slots = fillLeaf s (A.ByNumber n) [] k slots
 
 -- the values of n leaves from a number on, one after the other
 abbrev pub runValues : List ℕ → Grid → ℕ → ℕ → List ℕ

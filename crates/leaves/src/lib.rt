@@ -1,47 +1,59 @@
-// Sections 6 and 8 of document 01: the values of a run of leaves, with one opening of the grid.
+// Sections 6 and 8 of document 01: the values of a leaf, and those of a run of leaves with one opening of the grid.
 ghost use mathlib.Core.Path.{_≡_};
-ghost use Prim.Native.Nat.{_-_, _/_};
+ghost use mathlib.Core.Bool.{_&&_};
+ghost use Prim.Native.Nat.{_-_, _/_, _≤_};
 ghost use lib.Dec.{leb};
 ghost use lib.ListN.{length};
+ghost use Rattle.fields.specs.Parse.{when};
 ghost use Rattle.half.specs.Inner.{isWidth};
-ghost use Rattle.grid.specs.Answers.{saysFill, keptBy};
-ghost use Rattle.leaves.specs.Leaves.{fillLeaves, fillLeavesNamed, fillLeavesNumbered};
-ghost use Rattle.leaves.specs.Inner.{leavesFrom, valuesOf, Enough};
+ghost use Rattle.leaves.specs.Leaves.{fillLeaf, fillLeafNamed, fillLeafNumbered, fillLeaves, fillLeavesNamed, fillLeavesNumbered};
+ghost use Rattle.leaves.specs.Answers.{saysFill, keptBy};
+ghost use Rattle.leaves.specs.Inner.{startCursor, leavesFrom, valuesOf, Enough, rightSlots};
 use archive::Asked;
-use cursor::Cursor;
-use cursor::NextPiece;
-use grid::FillAnswer;
 use grid::GridAnswer;
-use values::Coding;
+use place::Start;
+use skip::Skipped;
 
-// Fills the slots with the values of the leaves that a cursor hands out, but for the first ones.
-fn fill_run(s: &[u8], c: Coding, start: Cursor, first: u64, slots: &mut [u32])
-    requires { ⌜ isWidth (c .width) × Enough (now s) c (leavesFrom (now s) c start) first (length (now slots)) ⌝ }
-    ensures { λ _. ⌜ now (slots .exit) ≡ valuesOf (now (s .entry)) c (leavesFrom (now (s .entry)) c start) first (length (now (slots .entry)) / 512) ⌝ }
+pub enum FillAnswer {
+    Filled,
+    Refused(u32),
+}
+
+// Fills the slots with the values of the leaves that a cursor hands out, but for the first ones. No tree has as many records as may be passed between two
+// leaves, so that only a leaf ends a pass.
+fn fill_run(s: &[u8], start: Start, first: u64, slots: &mut [u32])
+    requires { ⌜ isWidth (start .coding .width) × (start .«root_count» ≤ 256) × Enough (leavesFrom (now s) (start .coding) (startCursor start)) first (length (now slots)) ⌝ }
+    ensures { λ _. ⌜ now (slots .exit) ≡ valuesOf (now (s .entry)) (start .coding) (leavesFrom (now (s .entry)) (start .coding) (startCursor start)) first (length (now (slots .entry)) / 512) ⌝ }
 {
-    let mut cursor = start;
-    let mut skip = first;
+    let c = start.coding;
+    let mut cursor = cursor::between_roots(start.root_count, start.roots_pos, start.block_pos);
+    let mut pass = first;
     let mut at = 0;
     while at < slots.len() {
-        match cursor::next_piece(s, c, cursor) {
-            NextPiece::End => return,
-            NextPiece::Refused(_) => return,
-            NextPiece::At(q, behind) => {
+        match skip::skip(s, c, cursor, 0xffff_ffff_ffff_ffff, pass) {
+            Skipped::End(_, _) => return,
+            Skipped::Refused(_) => return,
+            Skipped::Before(q, behind, _, _) => {
+                let end = at + 512;
+                let mask = q.value;
+                let values = q.values;
+                values::fill_leaf(s, c, mask, values, &mut slots[at..end]);
                 cursor = behind;
-                if q.level == 0 {
-                    if skip == 0 {
-                        let end = at + 512;
-                        let mask = q.value;
-                        let values = q.values;
-                        values::fill_leaf(s, c, mask, values, &mut slots[at..end]);
-                        at = end;
-                    } else {
-                        skip = skip - 1;
-                    }
-                }
+                pass = 0;
+                at = end;
             }
         }
     }
+}
+
+// Whether so many slots are those of one leaf, or of whole leaves.
+fn right_slots(single: bool, n: usize) -> bool
+    ensures { λ r. ⌜ r ≡ rightSlots single n ⌝ }
+{
+    if single {
+        return n == 512;
+    }
+    n % 512 == 0
 }
 
 // Whether there are n of `count` leaves from one on.
@@ -54,37 +66,66 @@ fn has_run(count: u64, first: u64, n: usize) -> bool
     n as u64 <= count - first
 }
 
-fn fill_leaves(s: &[u8], asked: Asked, name: &[u8], first: u64, slots: &mut [u32]) -> FillAnswer
-    ensures { λ r. ⌜ (saysFill r (now (slots .exit)) ≡ fillLeaves (now (s .entry)) asked (now (name .entry)) first (length (now (slots .entry)))) × keptBy r (now (slots .entry)) (now (slots .exit)) ⌝ }
+// Whether n slots are right, and as many leaves are there from one on.
+fn fits(single: bool, n: usize, count: u64, first: u64) -> bool
+    ensures { λ r. ⌜ r ≡ (rightSlots single n && leb (n / 512) (count - first)) ⌝ }
+{
+    if !right_slots(single, n) {
+        return false;
+    }
+    has_run(count, first, n / 512)
+}
+
+// Writes the values of the leaves from a number on of the grid that is asked for: of a single one, or of as many as there are slots for. A refused call
+// leaves the slots as they were.
+fn fill_asked(
+    s: &[u8],
+    asked: Asked,
+    name: &[u8],
+    single: bool,
+    first: u64,
+    slots: &mut [u32],
+) -> FillAnswer
+    ensures { λ r. ⌜ (saysFill r (now (slots .exit)) ≡ when single (fillLeaf (now (s .entry)) asked (now (name .entry)) first (length (now (slots .entry)))) (fillLeaves (now (s .entry)) asked (now (name .entry)) first (length (now (slots .entry))))) × keptBy r (now (slots .entry)) (now (slots .exit)) ⌝ }
 {
     match grid::open_grid(s, asked, name) {
         GridAnswer::Refused(k) => FillAnswer::Refused(k),
         GridAnswer::Grid(g) => {
             let place = g.place;
-            let coding = place.coding;
-            let cursor = place.cursor;
-            if slots.len() % 512 != 0 {
+            let start = place.start;
+            if !fits(single, slots.len(), g.leaf_count, first) {
                 return FillAnswer::Refused(21);
             }
-            if !has_run(g.leaf_count, first, slots.len() / 512) {
-                return FillAnswer::Refused(21);
-            }
-            fill_run(s, coding, cursor, first, slots);
+            fill_run(s, start, first, slots);
             FillAnswer::Filled
         }
     }
+}
+
+// Writes the 512 values of a leaf, by its number from 0 in topology order, of the grid of this name.
+pub fn fill_leaf_named(s: &[u8], name: &[u8], number: u64, slots: &mut [u32]) -> FillAnswer
+    ensures { λ r. ⌜ (saysFill r (now (slots .exit)) ≡ fillLeafNamed (now (s .entry)) (now (name .entry)) number (length (now (slots .entry)))) × keptBy r (now (slots .entry)) (now (slots .exit)) ⌝ }
+{
+    fill_asked(s, Asked::ByName, name, true, number, slots)
+}
+
+// The same for the grid with this number, from 0.
+pub fn fill_leaf_numbered(s: &[u8], n: u32, number: u64, slots: &mut [u32]) -> FillAnswer
+    ensures { λ r. ⌜ (saysFill r (now (slots .exit)) ≡ fillLeafNumbered (now (s .entry)) n number (length (now (slots .entry)))) × keptBy r (now (slots .entry)) (now (slots .exit)) ⌝ }
+{
+    fill_asked(s, Asked::ByNumber(n), b"", true, number, slots)
 }
 
 // Writes the values of the leaves from a number on, 512 slots each, of the grid of this name.
 pub fn fill_leaves_named(s: &[u8], name: &[u8], first: u64, slots: &mut [u32]) -> FillAnswer
     ensures { λ r. ⌜ (saysFill r (now (slots .exit)) ≡ fillLeavesNamed (now (s .entry)) (now (name .entry)) first (length (now (slots .entry)))) × keptBy r (now (slots .entry)) (now (slots .exit)) ⌝ }
 {
-    fill_leaves(s, Asked::ByName, name, first, slots)
+    fill_asked(s, Asked::ByName, name, false, first, slots)
 }
 
 // The same for the grid with this number, from 0.
 pub fn fill_leaves_numbered(s: &[u8], n: u32, first: u64, slots: &mut [u32]) -> FillAnswer
     ensures { λ r. ⌜ (saysFill r (now (slots .exit)) ≡ fillLeavesNumbered (now (s .entry)) n first (length (now (slots .entry)))) × keptBy r (now (slots .entry)) (now (slots .exit)) ⌝ }
 {
-    fill_leaves(s, Asked::ByNumber(n), b"", first, slots)
+    fill_asked(s, Asked::ByNumber(n), b"", false, first, slots)
 }

@@ -189,18 +189,11 @@ pub fn read_entry(s: &[u8], at: usize) -> EntryField
     }
 }
 
-// Whether the bytes that w stands for are these.
-pub fn has_bytes(s: &[u8], w: Span, name: &[u8]) -> bool
-    ensures { λ r. ⌜ r ≡ sameBytes (bytesOf (now (s .entry)) w) (now (name .entry)) ⌝ }
-{
-    fields::same_bytes(fields::bytes_of(s, w), name)
-}
-
 // An entry of this name takes the place of what was found before it.
 fn newer(s: &[u8], name: &[u8], e: Entry, best: FoundEntry) -> FoundEntry
     ensures { λ r. ⌜ saysFoundEntry r ≡ when (sameBytes (bytesOf (now (s .entry)) (e .name)) (now (name .entry))) (some e) (saysFoundEntry best) ⌝ }
 {
-    if has_bytes(s, e.name, name) {
+    if fields::has_bytes(s, e.name, name) {
         return FoundEntry::At(e);
     }
     best

@@ -25,23 +25,11 @@ use Rattle.values.specs.Inner.{Held}
 use Rattle.values.proofs.Laws.{values-held}
 use Rattle.values.proofs.Agree.{values-ends}
 pub use Rattle.values.proofs.Laws.{whole-mask}
-use Rattle.nodes.specs.Nodes.{nodeField, sameInt, blockField}
+use Rattle.nodes.specs.Nodes.{nodeField, blockField}
 use Rattle.nodes.specs.Inner.{blockHead, endOf}
 use Rattle.nodes.specs.declared.NodeHeader.{NodeHeader}
 use Rattle.nodes.specs.declared.Leaf.{Leaf}
 use Rattle.nodes.specs.declared.Block.{Block}
-
--- two i32 are the same when their bits are
-pub same-bits : (a b : ℤ) → mag a < 2 ^ 31 → mag b < 2 ^ 31 → eqb (ofZ w32 a) (ofZ w32 b) ≡ sameInt a b
-unfolding sameInt
-same-bits (pos a) (pos b) h k = refl
-same-bits (pos a) (negsuc b) h k = ne-eqb a (4294967296 - suc b) (λ e. omega arith)
-same-bits (negsuc a) (pos b) h k = ne-eqb (4294967296 - suc a) b (λ e. omega arith)
-same-bits (negsuc a) (negsuc b) h k = go (eqb a b) refl
-  where
-    go : (t : Bool) → eqb a b ≡ t → eqb (4294967296 - suc a) (4294967296 - suc b) ≡ t
-    go true e = let f = eqb-true a b e in eq-eqb (4294967296 - suc a) (4294967296 - suc b) (omega arith)
-    go false e = let f = eqb-false a b e in ne-eqb (4294967296 - suc a) (4294967296 - suc b) (λ g. f (omega arith))
 
 -- a node that was read: its masks lie in the file, it can be read from, and it ends after its masks and in the file
 pub record NodeRead (s : List ℕ) (c : Coding) (n at : ℕ) (h : NodeHeader) (e : ℕ) : Type 0 where

@@ -1,12 +1,11 @@
 -- Sections 4 and 6: a node's masks and stored values, and a leaf's block, with checks 18 and 20 of section 8.
 use Prim.Native.Nat.{ℕ, _*_}
 use mathlib.Core.List.{List}
-use mathlib.Core.Bool.{Bool, false, not, _&&_}
+use mathlib.Core.Bool.{not}
 use lib.Dec.{ltb, eqb}
-use lib.IntN.{ℤ, pos, negsuc}
 use Rattle.fields.specs.Parse.{Parse, got, then, when, check}
 use Rattle.fields.specs.Fields.{u8Field, iVec3Field, bytesField}
-use Rattle.fields.specs.declared.IVec3.{IVec3}
+use Rattle.coordinates.specs.Coordinates.{sameCoord, originOf}
 use Rattle.coordinates.specs.declared.GlobalCoord.{GlobalCoord}
 use Rattle.masks.specs.Masks.{maskBit, overlap, agree}
 use Rattle.values.specs.Values.{valuesField}
@@ -25,20 +24,6 @@ nodeField s c n at =
     check (not (overlap (maskBit s (child .start)) (maskBit s (value .start)) (8 * n))) 18
     (then (valuesField s c Childless n (child .start) (value .start) q) λ values r.
     got (record { child = child .start; value = value .start; values = values }) r)
-
--- whether two integers, and two coordinates, are the same
-unfoldable pub sameInt : ℤ → ℤ → Bool
-sameInt (pos a) (pos b) = eqb a b
-sameInt (pos a) (negsuc b) = false
-sameInt (negsuc a) (pos b) = false
-sameInt (negsuc a) (negsuc b) = eqb a b
-
-unfoldable pub sameCoord : GlobalCoord → GlobalCoord → Bool
-sameCoord a b = sameInt (a .0) (b .0) && (sameInt (a .1) (b .1) && sameInt (a .2) (b .2))
-
--- an origin read from the file
-abbrev pub originOf : IVec3 → GlobalCoord
-originOf v = (v .x, v .y, v .z)
 
 -- What a block has before version 222 only: its leaf's origin, and a count of buffers, which is 1; check 20 on each.
 unfoldable pub buffersField : List ℕ → ℕ → Parse Unit

@@ -4,10 +4,9 @@ ghost use Prim.Native.Nat.{_≤_, _%_};
 ghost use Rattle.half.specs.Inner.{isWidth};
 ghost use Rattle.masks.specs.Masks.{maskBit, countBelow};
 ghost use Rattle.masks.specs.Inner.{IsMask};
-ghost use Rattle.nodes.specs.Nodes.{nodeField, sameCoord, originOf, buffersField, oldField, blockField};
+ghost use Rattle.nodes.specs.Nodes.{nodeField, buffersField, oldField, blockField};
 ghost use Rattle.nodes.specs.Inner.{blockHead, endOf, saysNode, saysEnd, saysBlock};
 use coordinates::GlobalCoord;
-use fields::IVec3;
 use fields::IVec3Field;
 use fields::SpanField;
 use fields::U8Field;
@@ -81,20 +80,6 @@ pub fn read_node_header(s: &[u8], c: Coding, n: usize, at: usize) -> NodeField
     }
 }
 
-// Whether two coordinates are the same.
-pub fn same_coord(a: GlobalCoord, b: GlobalCoord) -> bool
-    ensures { λ r. ⌜ r ≡ sameCoord a b ⌝ }
-{
-    (a.0 == b.0) & ((a.1 == b.1) & (a.2 == b.2))
-}
-
-// An origin read from the file.
-pub fn origin_of(v: IVec3) -> GlobalCoord
-    ensures { λ r. ⌜ r ≡ originOf v ⌝ }
-{
-    GlobalCoord(v.x, v.y, v.z)
-}
-
 // The count of buffers that a block has under 222.
 fn read_buffers(s: &[u8], at: usize) -> EndField
     ensures { λ r. ⌜ saysEnd r ≡ buffersField (now (s .entry)) at ⌝ }
@@ -120,7 +105,7 @@ fn read_old(s: &[u8], version: u32, origin: GlobalCoord, at: usize) -> EndField
     match fields::read_i_vec3(s, at) {
         IVec3Field::Past => EndField::Refused(2),
         IVec3Field::Got(v, p) => {
-            if same_coord(origin_of(v), origin) {
+            if coordinates::same_coord(coordinates::origin_of(v), origin) {
                 return read_buffers(s, p);
             }
             EndField::Refused(20)

@@ -116,6 +116,7 @@ fn value_of(s: &[u8], version: u32, flags: u32, width: usize, n: usize, p: usize
         version,
         flags,
         width: 4 - width / 2 % 2 * 2,
+        background: 0,
     };
     if s.len() < 2 * bytes {
         return 0;

@@ -1,5 +1,5 @@
 -- A walk may be cut anywhere: m records and then k hand out what m + k do, and end at the same place.
-use mathlib.Core.Path.{_≡_, refl, ap}
+use mathlib.Core.Path.{_≡_, refl}
 use mathlib.Core.List.{List, [], _∷_, _++_, append-assoc}
 use mathlib.Core.Bool.{Bool, true, false, _&&_, and-false}
 use Prim.Native.Nat.{ℕ, _+_, _-_, _≤_}
@@ -13,10 +13,10 @@ use Rattle.values.specs.declared.Coding.{Coding}
 use Rattle.records.specs.Inner.{Handed, follow, handPiece}
 use Rattle.records.specs.declared.Inside.{Inside}
 use Rattle.records.proofs.Cut.{Cut, full, short, piece-cut}
-use Rattle.cursor.specs.Inner.{Rest, Stop, toCome}
+use Rattle.cursor.specs.Inner.{Stop}
 use Rattle.cursor.specs.declared.Cursor.{Cursor}
-use Rattle.cursor.proofs.Step.{follows}
-use Rattle.place.specs.Inner.{Course, entered, stopped, join, course, handOn}
+use Rattle.place.specs.Inner.{Course, entered, stopped, join, listingFrom, course, handOn}
+use Rattle.place.proofs.Listing.{first-listed}
 
 -- the same added to both sides changes no test
 less-on : (m a b : ℕ) → ltb (m + a) (m + b) ≡ ltb a b
@@ -28,7 +28,7 @@ less-on m a b = go (ltb a b) refl
 
 module _ (s : List ℕ) (c : Coding) where
   -- a walk stops where no more is wanted
-  course-full : (m : ℕ) (h : Handed) (x : Cursor) (ts : List Stop) → length (h .records) ≡ m → course s c m h x ts ≡ stopped h x
+  pub course-full : (m : ℕ) (h : Handed) (x : Cursor) (ts : List Stop) → length (h .records) ≡ m → course s c m h x ts ≡ stopped h x
   unfolding course when
   course-full m h x [] l = refl
   course-full m h x (t ∷ ts) l = rw (le-ltb (length (h .records)) m (omega arith), and-false)
@@ -48,25 +48,19 @@ module _ (s : List ℕ) (c : Coding) where
 module _ (s : List ℕ) (c : Coding) (wide : isWidth (c .width)) (k : ℕ) where
   -- cut behind m records that are all of the piece before the cursor x
   cut-here :
-      (ts : List Stop) (m : ℕ) (x : Cursor) (h : Handed) → length (h .records) ≡ m → ts ≡ toCome s c x .items → let a = course s c m h x ts in
+      (ts : List Stop) (m : ℕ) (x : Cursor) (h : Handed) → length (h .records) ≡ m → ts ≡ listingFrom s c x → let a = course s c m h x ts in
       course s c (m + k) (follow h (handPiece s c k (h .inside))) x ts ≡ join (a .records) (handOn s c k (a .cursor) (a .inside))
   cut-here ts m x h l d = rw (course-full s c m h x ts l, ← d) (course-join s c m k h _ x ts l)
 
-  -- what is to come behind the next piece is what the cursor behind it hands out
-  there : (x : Cursor) (t : Stop) (ts : List Stop) → t ∷ ts ≡ toCome s c x .items → ts ≡ toCome s c (t .behind) .items
-  there x t ts e =
-      let r : Rest Stop = record { items = ts; refusal = toCome s c x .refusal } in
-      ap (λ (r : Rest Stop). r .items) (follows s c wide x {r = r} (λ i. record { items = e i; refusal = r .refusal }) .1)
-
   -- cut in this piece or in a later one
   course-cut :
-      (ts : List Stop) (m : ℕ) (x : Cursor) (h H : Handed) → Cut (handPiece s c k) m h H → ts ≡ toCome s c x .items → let a = course s c m h x ts in
+      (ts : List Stop) (m : ℕ) (x : Cursor) (h H : Handed) → Cut (handPiece s c k) m h H → ts ≡ listingFrom s c x → let a = course s c m h x ts in
       length (a .records) ≡ m → course s c (m + k) H x ts ≡ join (a .records) (handOn s c k (a .cursor) (a .inside))
   unfolding course when
   course-cut [] m x h H (full l e) d n = rw e (cut-here [] m x h l d)
   course-cut [] m x h H (short l e) d n = absurd (omega arith)
   course-cut (t ∷ ts) m x h H (full l e) d n = rw e (cut-here (t ∷ ts) m x h l d)
-  course-cut (t ∷ ts) m x h H (short l e) d n = rw e (go (course-cut ts i (t .behind) _ _ (piece-cut s c k i (entered (t .piece))) (there x t ts d)) (h .whole) refl)
+  course-cut (t ∷ ts) m x h H (short l e) d n = rw e (go (course-cut ts i (t .behind) _ _ (piece-cut s c k i (entered (t .piece))) (first-listed s c wide x d .1)) (h .whole) refl)
     where
       i : ℕ
       i = m - length (h .records)
@@ -83,7 +77,7 @@ module _ (s : List ℕ) (c : Coding) (wide : isWidth (c .width)) (k : ℕ) where
 -- A walk that is cut in two hands out the same and ends at the same place.
 pub cut : (s : List ℕ) (c : Coding) → isWidth (c .width) → (m k : ℕ) (x : Cursor) (w : Inside) → let a = handOn s c m x w in
     length (a .records) ≡ m → handOn s c (m + k) x w ≡ join (a .records) (handOn s c k (a .cursor) (a .inside))
-cut s c wide m k x w = course-cut s c wide k (toCome s c x .items) m x _ _ (piece-cut s c k m w) refl
+cut s c wide m k x w = course-cut s c wide k (listingFrom s c x) m x _ _ (piece-cut s c k m w) refl
 
 -- No more is handed out than is wanted.
 module _ (s : List ℕ) (c : Coding) where
@@ -105,4 +99,4 @@ module _ (s : List ℕ) (c : Coding) where
       go a false k = l
 
   pub hand-most : (m : ℕ) (x : Cursor) (w : Inside) → length (handOn s c m x w .records) ≤ m
-  hand-most m x w = course-most (toCome s c x .items) m _ x (piece-most m w)
+  hand-most m x w = course-most (listingFrom s c x) m _ x (piece-most m w)

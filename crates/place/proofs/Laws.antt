@@ -1,8 +1,8 @@
 -- Laws of a walk over the pieces: what is left to hand out from here is the whole.
 use mathlib.Core.Path.{_≡_, refl, sym, ap, ap₂, subst, _∙_}
-use mathlib.Core.List.{List, [], _∷_, _++_}
+use mathlib.Core.List.{List, [], _∷_}
 use mathlib.Core.Bool.{Bool, true, false, _&&_}
-use mathlib.Core.Option.{Option, none, some}
+use mathlib.Core.Option.{none, some}
 use Prim.Native.Nat.{ℕ, suc, _+_, _-_, _≤_, _<_}
 use native.Mathlib.Nat.{sub-zero}
 use native.Mathlib.Omega.{arith}
@@ -11,18 +11,17 @@ use lib.ListN.{length, length-append}
 use borrow.Author.Tests.{lt-ltb, le-ltb, ltb-true, ltb-false}
 use Rattle.fields.specs.Parse.{when}
 use Rattle.values.specs.declared.Coding.{Coding}
-use Rattle.tree.specs.Active.{Piece}
-use Rattle.cursor.specs.Inner.{Rest, Stop, stop, toCome}
+use Rattle.cursor.specs.Inner.{Stop}
 use Rattle.cursor.specs.declared.Cursor.{Cursor}
-use Rattle.cursor.proofs.Step.{follows}
 use Rattle.records.specs.Slots.{Slots, laid}
 use Rattle.records.specs.Inner.{Handed, handPiece, Fills}
 use Rattle.records.specs.declared.Inside.{Inside}
 use Rattle.records.specs.declared.Run.{Run}
 use Rattle.records.proofs.Laws.{laid-append, laid-same, Same, same}
 use Rattle.half.specs.Inner.{isWidth}
-use Rattle.place.specs.Inner.{Course, stopped, join, course, handOn, entered, nextStand, Walks}
+use Rattle.place.specs.Inner.{Course, stopped, join, listingFrom, course, handOn, entered, nextStand, Walks}
 use Rattle.place.specs.declared.Stand.{Stand}
+use Rattle.place.proofs.Listing.{first-listed}
 
 -- Handing out a from slot i on, into slots t, comes to the whole, A from the first slot on into t₀.
 pub record Coming (i : ℕ) (a : Course) (t : Slots) (A : Course) (t₀ : Slots) : Type 0 where
@@ -34,10 +33,10 @@ pub record Coming (i : ℕ) (a : Course) (t : Slots) (A : Course) (t₀ : Slots)
 pub comes : (s : List ℕ) (c : Coding) (limit : ℕ) (x : Cursor) (w : Inside) (t₀ : Slots) → Coming 0 (handOn s c (limit - 0) x w) t₀ (handOn s c limit x w) t₀
 comes s c limit x w t₀ = rw (sub-zero limit) record { cursor = refl; inside = refl; filled = omega arith; slots = refl }
 
-none-some : {A : Type 0} {a : A} → none ≡ some a → ⊥
+pub none-some : {A : Type 0} {a : A} → none ≡ some a → ⊥
 none-some e = let z : _≡_ {A = ℕ} 0 1 = cc in absurd (omega arith)
 
-some-same : {A : Type 0} {a b : A} → some a ≡ some b → a ≡ b
+pub some-same : {A : Type 0} {a b : A} → some a ≡ some b → a ≡ b
 some-same e = cc
 
 -- the next piece, by the tests and by what is to come
@@ -57,8 +56,8 @@ unfolding nextStand
 none-to-come b filled limit ts e = rw (← e)
 
 pub stands-next :
-    {b : Bool} (filled limit : ℕ) {q : Piece} {y : Cursor} {r z : Rest Stop} {w : Inside} → b ≡ true → filled < limit → stop q y r ≡ z → w ≡ entered q →
-    some (record { cursor = y; inside = w; filled = filled }) ≡ nextStand b filled limit (z .items)
+    {b : Bool} (filled limit : ℕ) {t : Stop} {ts us : List Stop} {w : Inside} → b ≡ true → filled < limit → t ∷ ts ≡ us → w ≡ entered (t .piece) →
+    some (record { cursor = t .behind; inside = w; filled = filled }) ≡ nextStand b filled limit us
 unfolding nextStand when
 stands-next filled limit e l d f = rw (← d, e, lt-ltb _ _ l, f)
 
@@ -92,7 +91,7 @@ module _ (s : List ℕ) (c : Coding) (limit : ℕ) (x : Cursor) (w : Inside) {i 
       go y v true e = absurd (none-some e)
       go y v false e = refl
 
-  pub stops-so : none ≡ nextStand (r .whole) (r .filled) limit (toCome s c x .items) → Walks A t₀ t′ (record { cursor = x; inside = r .inside; filled = r .filled })
+  pub stops-so : none ≡ nextStand (r .whole) (r .filled) limit (listingFrom s c x) → Walks A t₀ t′ (record { cursor = x; inside = r .inside; filled = r .filled })
   stops-so e = go (rw (stopping _ e) at g)
     where
       go : Coming i (stopped own x) t A t₀ → Walks A t₀ t′ (record { cursor = x; inside = r .inside; filled = r .filled })
@@ -109,19 +108,18 @@ module _ (s : List ℕ) (c : Coding) (limit : ℕ) (x : Cursor) (w : Inside) {i 
       }
 
   pub goes-next :
-      isWidth (c .width) → {v : Stand} → some v ≡ nextStand (r .whole) (r .filled) limit (toCome s c x .items) →
-      Coming (v .filled) (handOn s c (limit - v .filled) (v .cursor) (v .inside)) t′ A t₀ × (length (toCome s c (v .cursor) .items) < length (toCome s c x .items))
+      isWidth (c .width) → {v : Stand} → some v ≡ nextStand (r .whole) (r .filled) limit (listingFrom s c x) →
+      Coming (v .filled) (handOn s c (limit - v .filled) (v .cursor) (v .inside)) t′ A t₀ × (length (listingFrom s c (v .cursor)) < length (listingFrom s c x))
   unfolding course nextStand when
-  goes-next wide {v} e = go (toCome s c x .items) (toCome s c x .refusal) refl e g
+  goes-next wide {v} e = go (listingFrom s c x) refl e g
     where
-      go : (ts : List Stop) (k : Option ℕ) → record { items = ts; refusal = k } ≡ toCome s c x → some v ≡ nextStand (r .whole) (r .filled) limit ts →
-          Coming i (course s c (limit - i) own x ts) t A t₀ →
-          Coming (v .filled) (handOn s c (limit - v .filled) (v .cursor) (v .inside)) t′ A t₀ × (length (toCome s c (v .cursor) .items) < length ts)
-      go [] k d e g = absurd (none-some (sym e))
-      go (t ∷ ts) k d e g = tested (r .whole && ltb (r .filled) limit) same-test e
+      go : (ts : List Stop) → ts ≡ listingFrom s c x → some v ≡ nextStand (r .whole) (r .filled) limit ts → Coming i (course s c (limit - i) own x ts) t A t₀ →
+          Coming (v .filled) (handOn s c (limit - v .filled) (v .cursor) (v .inside)) t′ A t₀ × (length (listingFrom s c (v .cursor)) < length ts)
+      go [] d e g = absurd (none-some (sym e))
+      go (t ∷ ts) d e g = tested (r .whole && ltb (r .filled) limit) same-test e
         where
-          behind : record { items = ts; refusal = k } ≡ toCome s c (t .behind)
-          behind = follows s c wide x d .1
+          behind : ts ≡ listingFrom s c (t .behind)
+          behind = first-listed s c wide x d .1
 
           n : limit - i - length (own .records) ≡ limit - r .filled
           n = omega (arith, f .filled)
@@ -130,12 +128,12 @@ module _ (s : List ℕ) (c : Coding) (limit : ℕ) (x : Cursor) (w : Inside) {i 
           here = record { cursor = t .behind; inside = entered (t .piece); filled = r .filled }
 
           tested : (b : Bool) → (own .whole && ltb (length (own .records)) (limit - i)) ≡ b → some v ≡ when b (some here) none →
-              Coming (v .filled) (handOn s c (limit - v .filled) (v .cursor) (v .inside)) t′ A t₀ × (length (toCome s c (v .cursor) .items) < suc (length ts))
+              Coming (v .filled) (handOn s c (limit - v .filled) (v .cursor) (v .inside)) t′ A t₀ × (length (listingFrom s c (v .cursor)) < suc (length ts))
           tested true j e =
-              let b = ap (λ (z : Rest Stop). length (z .items)) behind in
+              let b = ap length behind in
               rw (some-same e) (
                 subst (λ (b : Course). Coming (r .filled) b t′ A t₀)
-                    (λ q. course s c (n q) (handPiece s c (n q) (entered (t .piece))) (t .behind) (behind q .items)) (joining _ (rw j at g)),
+                    (λ q. course s c (n q) (handPiece s c (n q) (entered (t .piece))) (t .behind) (behind q)) (joining _ (rw j at g)),
                 omega (arith, b),
               )
           tested false j e = absurd (none-some (sym e))

@@ -1,5 +1,10 @@
+pub mod Listing
 pub mod Laws
 pub mod Own
 pub mod List
 pub mod Cut
 pub mod Places
+pub mod Piece
+pub mod Counted
+pub mod Found
+pub mod Stands

@@ -19,15 +19,15 @@ use Rattle.values.specs.declared.Stored.{Stored}
 use Rattle.values.specs.declared.Stored.the-variants.{Every, Active, Childless}
 use Rattle.values.proofs.Laws.{held-place, stored-place}
 use Rattle.tree.specs.Active.{Record, Piece, edgeOf, recordAt, recordsOf}
-use Rattle.records.specs.Inner.{Handed, roomOf, isKept, standing, recordHere, nothing, cutOff, handOut, isInside, handPiece}
+use Rattle.records.specs.Inner.{Handed, roomOf, isKept, recordHere, nothing, cutOff, handOut, isInside, handPiece}
 use Rattle.records.specs.declared.Inside.{Inside}
 use Rattle.records.proofs.Laws.{by-origin}
 use Rattle.records.proofs.Levels.{masked}
 use Rattle.cursor.specs.Inner.{HeldPiece}
-use Rattle.place.specs.Inner.{storedNumber, entered}
+use Rattle.place.specs.Inner.{storedNumber, entered, atPlace}
 
 -- the number that a walk keeps tells which places are stored
-kept-number :
+pub kept-number :
     (x : Stored) (s : List ℕ) (child value p : ℕ) →
     when (eqb (storedNumber x) 0) true (when (eqb (storedNumber x) 1) (maskBit s value p) (not (maskBit s child p))) ≡ isStored s x child value p
 unfolding when isStored
@@ -40,18 +40,18 @@ abbrev Gives : ℕ → Handed → List Record → Type 0
 Gives want g rs = (g .records ≡ take want rs) × (g .whole ≡ true)
 
 module _ (s : List ℕ) (c : Coding) (q : Piece) (h : HeldPiece s c q) where
-  abbrev keeps : ℕ → Bool
+  abbrev pub keeps : ℕ → Bool
   keeps = isStored s (q .values .stored) (q .child) (q .value)
 
   -- before place p
   abbrev at-place : ℕ → Inside
-  at-place p = standing (entered q) p (countBelow keeps p)
+  at-place = atPlace s q
 
-  abbrev active : ℕ → Bool
+  abbrev pub active : ℕ → Bool
   active = maskBit s (q .value)
 
   -- at an active place the next stored value is the place's, and it lies in the file
-  in-room : (p : ℕ) → p < places (edgeOf (q .level)) → active p ≡ true → countBelow keeps p < roomOf s c (q .values .start)
+  pub in-room : (p : ℕ) → p < places (edgeOf (q .level)) → active p ≡ true → countBelow keeps p < roomOf s c (q .values .start)
   in-room p l e =
       let r = held-place (h .held) (omega (arith, masked (q .level) .bits)) refl (h .kept p l e) in
       let w : 0 < c .width = omega (arith, h .held .width .0) in
@@ -63,7 +63,7 @@ module _ (s : List ℕ) (c : Coding) (q : Piece) (h : HeldPiece s c q) where
   own-record p l e = rw (stored-place c s (q .child) (q .value) (q .values) p (h .kept p l e))
 
   -- of the j places from p on
-  own-from : (j p want : ℕ) → p + j ≤ places (edgeOf (q .level)) → Gives want (handOut s c want (at-place p) j) (map (recordAt s c q) (onesFrom active p j))
+  pub own-from : (j p want : ℕ) → p + j ≤ places (edgeOf (q .level)) → Gives want (handOut s c want (at-place p) j) (map (recordAt s c q) (onesFrom active p j))
   unfolding handOut when isKept
   own-from zero p want l = rw (ones-none active p, take-nil want) (refl, refl)
   own-from (suc j) p zero l = (refl, refl)
@@ -79,7 +79,7 @@ module _ (s : List ℕ) (c : Coding) (q : Piece) (h : HeldPiece s c q) where
           rw (kept-number (q .values .stored) s (q .child) (q .value) p, ← count-suc keeps p, e, ones-zero active p j e) (later (suc want))
 
   -- of all n places
-  all-places :
+  pub all-places :
       (want n : ℕ) →
       when (leb n 0) (nothing (entered q)) (when (isInside s (entered q)) (handOut s c want (entered q) (n - 0)) (cutOff (entered q))) ≡ handOut s c want (entered q) n
   unfolding handOut when

@@ -1,46 +1,36 @@
 -- The places of a walk over a tree that was read with its blocks: after no record, after some, after more.
-use mathlib.Core.Path.{_≡_, refl, sym, ap, _∙_}
+use mathlib.Core.Path.{_≡_, sym, ap, _∙_}
 use mathlib.Core.List.{List, [], _∷_, _++_}
-use mathlib.Core.Bool.{Bool, true, false, _&&_}
 use Prim.Native.Nat.{ℕ, _+_, _-_, _≤_}
 use native.Mathlib.Nat.{sub-zero}
-use native.Mathlib.Omega.{arith}
-use lib.Dec.{ltb}
 use lib.ListN.{length, take, drop}
 use lib.Seq.{length-take-le, take-add}
-use Rattle.fields.specs.Parse.{when}
 use Rattle.half.specs.Inner.{isWidth}
 use Rattle.values.specs.declared.Coding.{Coding}
-use Rattle.tree.specs.Topology.{Tree}
+use Rattle.tree.specs.Topology.{Node5}
 use Rattle.tree.specs.Blocks.{Filled5}
 use Rattle.tree.specs.Active.{Record, activeList}
 use Rattle.tree.proofs.Coverage.{Parsed}
-use Rattle.cursor.specs.Inner.{Stop, toCome}
-use Rattle.cursor.specs.declared.Cursor.{Cursor}
 use Rattle.cursor.proofs.Whole.{fresh}
-use Rattle.records.specs.Inner.{handPiece, nothing}
-use Rattle.place.specs.Inner.{Course, stopped, join, course, handOn, nowhere, freshPlace, moved, placeFrom}
-use Rattle.place.specs.declared.Place.{Place}
+use Rattle.place.specs.Inner.{Course, join, handOn, nowhere, freshPlace, moved, placeFrom}
+use Rattle.place.specs.declared.Start.{Start}
 use Rattle.place.proofs.List.{list-from}
 use Rattle.place.proofs.Cut.{cut}
+use Rattle.place.proofs.Found.{stays}
 
 same-rest : {A : Type 0} (xs ys zs : List A) → xs ++ ys ≡ xs ++ zs → ys ≡ zs
 same-rest [] ys zs e = e
 same-rest (x ∷ xs) ys zs e = same-rest xs ys zs (let d = ap (drop 1) e in d)
 
--- nothing is wanted, and the walk stays
-none-wanted : (s : List ℕ) (c : Coding) (x : Cursor) (ts : List Stop) → course s c 0 (handPiece s c 0 nowhere) x ts ≡ stopped (nothing nowhere) x
-unfolding course handPiece when
-none-wanted s c x [] = refl
-none-wanted s c x (t ∷ ts) = refl
-
 -- after no record
-pub after-none : (s : List ℕ) (c : Coding) (roots count block n : ℕ) → placeFrom s c roots count block n 0 ≡ freshPlace c roots count block n
+pub after-none : (s : List ℕ) (t : Start) → placeFrom s t 0 ≡ freshPlace t
 unfolding placeFrom
-after-none s c roots count block n = rw (none-wanted s c _ _, sub-zero)
+after-none s t =
+    let f = stays s (t .coding) (freshPlace t .cursor) nowhere in
+    λ i. moved (freshPlace t) (sub-zero (t .length) i) (f i .0) (f i .1)
 
 -- the records that follow the first m of a list, so many of them, and where the walk stands behind these
-module _ {s : List ℕ} {c : Coding} {tree : Tree} {filled : List Filled5} (t : Parsed s c tree filled) (wide : isWidth (c .width)) where
+module _ {s : List ℕ} {c : Coding} {roots : List Node5} {filled : List Filled5} (t : Parsed s c roots filled) (wide : isWidth (c .width)) where
   abbrev listed : List Record
   listed = activeList s c filled
 

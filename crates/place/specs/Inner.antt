@@ -1,26 +1,37 @@
 -- Inner matter: only contracts of inner functions cite it, and nothing here has to be believed.
 -- What a walk hands out from where it stands, whatever its words are, piece after piece. That from a grid's start on this is the grid's active list,
 -- and that it does not matter how the calls are cut, is proved in proofs/List.antt and proofs/Cut.antt.
-use Prim.Native.Nat.{ℕ, _+_, _-_}
+use Prim.Native.Nat.{ℕ, _+_, _-_, _*_, _≤_}
 use mathlib.Core.Path.{_≡_}
 use mathlib.Core.List.{List, [], _∷_, _++_}
 use mathlib.Core.Bool.{Bool, _&&_}
 use mathlib.Core.Option.{Option, none, some}
-use lib.Dec.{ltb}
+use lib.Dec.{eqb, ltb}
 use lib.IntN.{pos}
 use lib.ListN.{length}
 use Rattle.fields.specs.Parse.{when}
+use Rattle.half.specs.Inner.{isWidth}
+use Rattle.values.specs.Values.{numberOf}
 use Rattle.values.specs.declared.Coding.{Coding}
 use Rattle.values.specs.declared.Stored.{Stored}
 use Rattle.values.specs.declared.Stored.the-variants.{Every, Active, Childless}
 use Rattle.tree.specs.Active.{Record, Piece}
+use Rattle.tree.specs.Inner.{recordCount}
 use Rattle.records.specs.Slots.{Slots, laid}
-use Rattle.records.specs.Inner.{Handed, handPiece}
+use Rattle.records.specs.Inner.{Handed, maskBytes, standing, handPiece}
 use Rattle.records.specs.declared.Inside.{Inside}
-use Rattle.cursor.specs.Inner.{Stop, betweenRoots, toCome}
+use Rattle.cursor.specs.Inner.{Stop, betweenRoots, toCome, pieceOf, HeldPiece}
 use Rattle.cursor.specs.declared.Cursor.{Cursor}
+use Rattle.cursor.specs.declared.NextPiece.{NextPiece}
+use Rattle.cursor.specs.declared.NextPiece.the-variants.{At, End, Refused}
+use Rattle.skip.specs.Inner.{Skip, before, ended, refused}
+use Rattle.place.specs.declared.Start.{Start}
 use Rattle.place.specs.declared.Place.{Place}
 use Rattle.place.specs.declared.Stand.{Stand}
+use Rattle.place.specs.declared.Behind.{Behind}
+use Rattle.place.specs.declared.Behind.the-variants.{At as BehindAt, Nothing as BehindNothing}
+use Rattle.place.specs.declared.StepAnswer.{StepAnswer}
+use Rattle.place.specs.declared.StepAnswer.the-variants.{At as StepAt, Refused as StepRefused}
 use Rattle.place.specs.declared.NextStand.{NextStand}
 use Rattle.place.specs.declared.NextStand.the-variants.{At as StandsAt, Nothing as StandsNowhere}
 
@@ -68,35 +79,31 @@ course s c want h x (t ∷ ts) =
     (course s c (want - length (h .records)) (handPiece s c (want - length (h .records)) (entered (t .piece))) (t .behind) ts))
     (stopped h x)
 
+-- the stops whose pieces list a record, all and those that a cursor still hands out
+unfoldable pub listing : List ℕ → List Stop → List Stop
+listing s [] = []
+listing s (t ∷ ts) = when (eqb (recordCount s (t .piece)) 0) (listing s ts) (t ∷ listing s ts)
+
+abbrev pub listingFrom : List ℕ → Coding → Cursor → List Stop
+listingFrom s c x = listing s (toCome s c x .items)
+
 -- so many records from here on
 abbrev pub handOn : List ℕ → Coding → ℕ → Cursor → Inside → Course
-handOn s c want x w = course s c want (handPiece s c want w) x (toCome s c x .items)
+handOn s c want x w = course s c want (handPiece s c want w) x (listingFrom s c x)
 
--- a walk before its first record, over a tree whose roots and blocks start here
-abbrev pub freshPlace : Coding → ℕ → ℕ → ℕ → ℕ → Place
-freshPlace c roots count block n = record {
-  coding = c;
-  «roots_pos» = roots;
-  «root_count» = count;
-  «block_pos» = block;
-  length = n;
-  left = n;
-  cursor = betweenRoots count roots block;
-  inside = nowhere;
-}
+-- a walk before its first record
+abbrev pub freshPlace : Start → Place
+freshPlace t = record { start = t; left = t .length; cursor = betweenRoots (t .«root_count») (t .«roots_pos») (t .«block_pos»); inside = nowhere }
 
 -- the same walk, with this many records left, standing there
 abbrev pub moved : Place → ℕ → Cursor → Inside → Place
-moved p left x w = record {
-  coding = p .coding;
-  «roots_pos» = p .«roots_pos»;
-  «root_count» = p .«root_count»;
-  «block_pos» = p .«block_pos»;
-  length = p .length;
-  left = left;
-  cursor = x;
-  inside = w;
-}
+moved p left x w = record { start = p .start; left = left; cursor = x; inside = w }
+
+-- what the code's answer says: the next piece that lists a record, and what the cursor behind it still hands out; or nothing, refused or not
+abbrev pub saysListed : List ℕ → Coding → NextPiece → List Stop
+saysListed s c (At q x) = record { piece = pieceOf q; behind = x } ∷ listingFrom s c x
+saysListed s c End = []
+saysListed s c (Refused k) = []
 
 -- where the walk stands in the next piece, if it goes on: all was whole, slots are left, and a piece is to come
 unfoldable pub nextStand : Bool → ℕ → ℕ → List Stop → Option Stand
@@ -114,9 +121,59 @@ pub record Walks (a : Course) (before after : Slots) (r : Stand) : Type 0 where
   pub filled : r .filled ≡ length (a .records)
   pub slots : after ≡ laid before 0 (a .records)
 
--- The place of a walk after m records of a list of n, over a tree whose roots and blocks start here.
-unfoldable pub placeFrom : List ℕ → Coding → ℕ → ℕ → ℕ → ℕ → ℕ → Place
-placeFrom s c roots count block n m = moved (freshPlace c roots count block n) (n - m) (a .cursor) (a .inside)
+-- The place of a walk after m records.
+unfoldable pub placeFrom : List ℕ → Start → ℕ → Place
+placeFrom s t m = moved (freshPlace t) (t .length - m) (a .cursor) (a .inside)
   where
     a : Course
-    a = handOn s c m (betweenRoots count roots block) nowhere
+    a = handOn s (t .coding) m (freshPlace t .cursor) nowhere
+
+-- Where a walk can stand: behind the places of a piece, as one in no piece does, or at a place of a piece that can be read from, and as many stored
+-- places are passed as the piece has before that place.
+abbrev pub atPlace : List ℕ → Piece → ℕ → Inside
+atPlace s q p = standing (entered q) p (numberOf s (q .values .stored) (q .child) (q .value) p)
+
+pub data Stands (s : List ℕ) (c : Coding) : Inside → Type 0 where
+  behind : {w : Inside} → 8 * maskBytes (w .level) ≤ w .from → Stands s c w
+  within : {w : Inside} (q : Piece) (p : ℕ) → HeldPiece s c q → w ≡ atPlace s q p → Stands s c w
+
+-- where a course ends, and what the code's answer says of it
+abbrev pub endOf : Course → Cursor × Inside
+endOf a = (a .cursor, a .inside)
+
+abbrev pub saysBehind : Behind → Option (Cursor × Inside)
+saysBehind (BehindAt x w) = some (x, w)
+saysBehind BehindNothing = none
+
+-- Behind the next record, when pieces were passed: it is in the first piece that did not fit, and of its records so many come before it.
+abbrev pub behindOf : List ℕ → Coding → Skip → Option (Cursor × Inside)
+behindOf s c (before t n k) = some (t .behind, handPiece s c (n + 1) (entered (t .piece)) .inside)
+behindOf s c (ended n k) = none
+behindOf s c (refused j) = none
+
+-- b is where a walk that can stand so, and has k records before it, ends behind them
+abbrev pub EndsAt : List ℕ → Coding → ℕ → Cursor → Inside → Option (Cursor × Inside) → Type 0
+EndsAt s c k x w b = Stands s c w → k ≤ length (handOn s c k x w .records) → b ≡ some (endOf (handOn s c k x w))
+
+-- The walk of a place over the bytes s stands, and has k records before it.
+pub record Walking (s : List ℕ) (p : Place) (k : ℕ) : Type 0 where
+  pub width : isWidth (p .start .coding .width)
+  pub stands : Stands s (p .start .coding) (p .inside)
+  pub listed : k ≤ length (handOn s (p .start .coding) k (p .cursor) (p .inside) .records)
+
+-- k more records are passed, and the walk stands behind them
+abbrev pub walkedOn : List ℕ → Place → ℕ → Place
+walkedOn s p k = moved p (p .left - k) (a .cursor) (a .inside)
+  where
+    a : Course
+    a = handOn s (p .start .coding) k (p .cursor) (p .inside)
+
+-- whatever the words are: the same walk with k fewer records left, or 22
+abbrev pub stepsOr22 : Place → ℕ → StepAnswer → Type 0
+stepsOr22 p k (StepAt q) = q ≡ moved p (p .left - k) (q .cursor) (q .inside)
+stepsOr22 p k (StepRefused j) = j ≡ 22
+
+-- A step over k records from the place p.
+pub record Steps (s : List ℕ) (p : Place) (k : ℕ) (r : StepAnswer) : Type 0 where
+  pub reached : Walking s p k → r ≡ StepAt (walkedOn s p k)
+  pub any : stepsOr22 p k r

@@ -1,37 +1,79 @@
 // Document 01, section 7: where a walk stands, and the records that follow.
 ghost use mathlib.Core.Path.{_≡_};
-ghost use Prim.Native.Nat.{_-_, _≤_};
+ghost use mathlib.Core.Bool.{true};
+ghost use Prim.Native.Nat.{_-_, _≤_, _<_, min};
 ghost use Rattle.half.specs.Inner.{isTable, isWidth};
-ghost use Rattle.cursor.specs.Inner.{pieceOf, toCome};
+ghost use Rattle.cursor.specs.Inner.{pieceOf};
 ghost use Rattle.records.specs.Slots.{slotsOf};
 ghost use Rattle.records.specs.Inner.{Room};
-ghost use Rattle.place.specs.Inner.{storedNumber, entered, nowhere, freshPlace, moved, nextStand, saysStand, handOn, Walks};
+ghost use Rattle.skip.specs.Inner.{skipFrom};
+ghost use Rattle.place.specs.Inner.{saysBehind, behindOf, EndsAt, Steps};
+ghost use Rattle.place.specs.Inner.{storedNumber, entered, nowhere, freshPlace, moved, listingFrom, saysListed, nextStand, saysStand, handOn, Walks};
 use coordinates::GlobalCoord;
+use coordinates::Index;
 use cursor::Cursor;
 use cursor::NextPiece;
 use cursor::Piece;
+use masks::NextOne;
 use records::Inside;
 use records::Run;
+use skip::Skipped;
 use values::Coding;
 use values::Stored;
 
-// Where a walk stands, all in whole numbers. First what it starts from, which tells the grid: how values are stored, where the roots start and how
-// many there are, where the blocks start, and the length of the active list. Then the number of records left, and where it stands right behind the
-// record that was handed out last: the cursor behind that record's piece, and the place in that piece.
-pub struct Place {
+// What a walk starts from, which tells its grid: how values are stored, where root tiles, roots and blocks start, how many tiles and roots there are,
+// and the length of the active list.
+pub struct Start {
     pub coding: Coding,
+    pub tiles_pos: usize,
+    pub tile_count: u32,
     pub roots_pos: usize,
     pub root_count: u32,
     pub block_pos: usize,
     pub length: u64,
+}
+
+// Where a walk stands, all in whole numbers: what it started from, the number of records left, and where it stands right behind the record that was
+// handed out last: the cursor behind that record's piece, and the place in that piece.
+pub struct Place {
+    pub start: Start,
     pub left: u64,
     pub cursor: Cursor,
     pub inside: Inside,
 }
 
 impl Place {
+    // The place after n more records, or after all that are left where there are fewer, found by counting. A place that no walk over these bytes gave gets
+    // a place with as many fewer left, or 22.
+    pub fn step(self, s: &[u8], n: u64) -> StepAnswer
+        ensures { λ r. ⌜ Steps (now (s .entry)) self (min n (self .left)) r ⌝ }
+    {
+        let count = if n < self.left { n } else { self.left };
+        let start = self.start;
+        let coding = start.coding;
+        let cursor = self.cursor;
+        let inside = self.inside;
+        if count == 0 {
+            return StepAnswer::At(self);
+        }
+        if !is_wide(coding.width) {
+            return StepAnswer::Refused(22);
+        }
+        match stand_after(s, coding, cursor, inside, count) {
+            Behind::Nothing => StepAnswer::Refused(22),
+            Behind::At(x, w) => {
+                let stand = Stand {
+                    cursor: x,
+                    inside: w,
+                    filled: count as usize,
+                };
+                StepAnswer::At(self.moved_to(stand))
+            }
+        }
+    }
+
     // The place that follows when a call's records are handed out: the same walk, standing behind these, with as many fewer left.
-    pub fn step(self, at: Stand) -> Place
+    pub fn moved_to(self, at: Stand) -> Place
         requires { ⌜ at .filled ≤ self .left ⌝ }
         ensures { λ r. ⌜ r ≡ moved self (self .left - at .filled) (at .cursor) (at .inside) ⌝ }
     {
@@ -57,11 +99,23 @@ enum NextStand {
     Nothing,
 }
 
+// The place after some more records, or 22.
+pub enum StepAnswer {
+    At(Place),
+    Refused(u32),
+}
+
+// Where a walk stands right behind a record, the cursor behind the record's piece and the place in that piece; or that no such record was found.
+enum Behind {
+    At(Cursor, Inside),
+    Nothing,
+}
+
 // Before the first record.
-pub fn fresh(c: Coding, roots_pos: usize, root_count: u32, block_pos: usize, length: u64) -> Place
-    ensures { λ r. ⌜ r ≡ freshPlace c «roots_pos» «root_count» «block_pos» length ⌝ }
+pub fn fresh(start: Start) -> Place
+    ensures { λ r. ⌜ r ≡ freshPlace start ⌝ }
 {
-    let cursor = cursor::between_roots(root_count, roots_pos, block_pos);
+    let cursor = cursor::between_roots(start.root_count, start.roots_pos, start.block_pos);
     let origin = GlobalCoord(0, 0, 0);
     let inside = Inside {
         level: 0,
@@ -74,12 +128,8 @@ pub fn fresh(c: Coding, roots_pos: usize, root_count: u32, block_pos: usize, len
         number: 0,
     };
     Place {
-        coding: c,
-        roots_pos,
-        root_count,
-        block_pos,
-        length,
-        left: length,
+        start,
+        left: start.length,
         cursor,
         inside,
     }
@@ -114,10 +164,33 @@ fn enter(q: Piece) -> Inside
     }
 }
 
-// Where a walk stands that is behind the places of a piece, in the next one: where all was whole, slots are left, and a piece is to come.
+// The next piece that lists a record, and the cursor behind it. A piece that lists one shows it in the first words of its value mask; empty pieces are
+// passed many at once.
+fn next_listed(s: &[u8], c: Coding, cursor: Cursor) -> NextPiece
+    requires { ⌜ isWidth (c .width) ⌝ }
+    ensures { λ r. ⌜ saysListed (now (s .entry)) c r ≡ listingFrom (now (s .entry)) c cursor ⌝ }
+{
+    match cursor::next_piece(s, c, cursor) {
+        NextPiece::End => NextPiece::End,
+        NextPiece::Refused(k) => NextPiece::Refused(k),
+        NextPiece::At(q, behind) => {
+            let n = records::mask_bytes(q.level);
+            if let NextOne::At(_) = masks::next_one(s, q.value, n, Index(0)) {
+                return NextPiece::At(q, behind);
+            }
+            match skip::skip(s, c, behind, 0, 18446744073709551615) {
+                Skipped::End(_, _) => NextPiece::End,
+                Skipped::Refused(k) => NextPiece::Refused(k),
+                Skipped::Before(p, x, _, _) => NextPiece::At(p, x),
+            }
+        }
+    }
+}
+
+// Where a walk stands that is behind the places of a piece, in the next one that lists a record: where all was whole, slots are left, and there is one.
 fn next_stand(s: &[u8], c: Coding, cursor: Cursor, t: Run, limit: usize) -> NextStand
     requires { ⌜ isWidth (c .width) ⌝ }
-    ensures { λ r. ⌜ saysStand r ≡ nextStand (t .whole) (t .filled) limit (toCome (now (s .entry)) c cursor .items) ⌝ }
+    ensures { λ r. ⌜ saysStand r ≡ nextStand (t .whole) (t .filled) limit (listingFrom (now (s .entry)) c cursor) ⌝ }
 {
     if !t.whole {
         return NextStand::Nothing;
@@ -125,7 +198,7 @@ fn next_stand(s: &[u8], c: Coding, cursor: Cursor, t: Run, limit: usize) -> Next
     if limit <= t.filled {
         return NextStand::Nothing;
     }
-    match cursor::next_piece(s, c, cursor) {
+    match next_listed(s, c, cursor) {
         NextPiece::End => NextStand::Nothing,
         NextPiece::Refused(_) => NextStand::Nothing,
         NextPiece::At(q, behind) => {
@@ -203,4 +276,49 @@ pub fn hand_on(
         return hand_pieces(&table, s, c, cursor, inside, limit, x, y, z, level, value);
     }
     hand_pieces(&[0], s, c, cursor, inside, limit, x, y, z, level, value)
+}
+
+// Where a walk stands behind so many records of the pieces from a cursor on: in the first piece that does not fit into one record less.
+fn stand_on(s: &[u8], c: Coding, cursor: Cursor, k: u64) -> Behind
+    requires { ⌜ isWidth (c .width) × (0 < k) ⌝ }
+    ensures { λ r. ⌜ saysBehind r ≡ behindOf (now (s .entry)) c (skipFrom (now (s .entry)) c (k - 1) 18446744073709551615 cursor) ⌝ }
+{
+    match skip::skip(s, c, cursor, k - 1, 18446744073709551615) {
+        Skipped::End(_, _) => Behind::Nothing,
+        Skipped::Refused(_) => Behind::Nothing,
+        Skipped::Before(q, x, before, _) => {
+            let w = enter(q);
+            Behind::At(x, nth::stand_behind(s, w, before as u32))
+        }
+    }
+}
+
+// The same from where a walk stands in a piece: in that piece, where it lists as many from there on.
+fn stand_after(s: &[u8], c: Coding, cursor: Cursor, w: Inside, k: u64) -> Behind
+    requires { ⌜ isWidth (c .width) × (0 < k) ⌝ }
+    ensures { λ r. ⌜ EndsAt (now (s .entry)) c k cursor w (saysBehind r) ⌝ }
+{
+    let n = records::mask_bytes(w.level);
+    if 8 * n as u32 <= w.from {
+        return stand_on(s, c, cursor, k);
+    }
+    if !records::is_inside(s, n, w) {
+        return Behind::Nothing;
+    }
+    let passed = masks::count_ones_below(s, w.value, n, Index(w.from));
+    let left = masks::count_ones(s, w.value, n) - passed;
+    if (left as u64) < k {
+        return stand_on(s, c, cursor, k - left as u64);
+    }
+    Behind::At(cursor, nth::stand_behind(s, w, passed + (k - 1) as u32))
+}
+
+// Whether a stored value can have this width.
+pub fn is_wide(width: usize) -> bool
+    ensures { λ r. ⌜ (r ≡ true → isWidth width) × (isWidth width → r ≡ true) ⌝ }
+{
+    if width == 2 {
+        return true;
+    }
+    width == 4
 }

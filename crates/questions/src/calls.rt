@@ -14,13 +14,13 @@
 //
 //     Transform AT
 use crate::series;
-use archive::DescriptorAnswer;
-use archive::EntryAnswer;
-use archive::HeaderAnswer;
+use answers::DescriptorAnswer;
+use answers::EntryAnswer;
+use answers::HeaderAnswer;
 use asking::line;
 use asking::show;
 use fields::Span;
-use grid::FillAnswer;
+use leaves::FillAnswer;
 use line::Line;
 use metadata::MetadataValue;
 use transform::Map;
@@ -29,7 +29,7 @@ use transform::Scale;
 use transform::ScaleTranslate;
 
 fn header(s: &[u8]) {
-    match archive::open_file(s) {
+    match answers::open_file(s) {
         HeaderAnswer::Refused(k) => show::refused(k),
         HeaderAnswer::Header(h) => {
             show::small(h.file_version);
@@ -162,7 +162,8 @@ fn open(a: grid::GridAnswer) {
             let m = g.transform;
             map(m);
             let p = g.place;
-            counts(g.background, p.root_count, g.leaf_count, g.active_count);
+            let start = p.start;
+            counts(g.background, start.root_count, g.leaf_count, g.active_count);
         }
     }
 }
@@ -176,7 +177,7 @@ pub fn grid_cut(s: &[u8], i: usize) -> u64 {
 }
 
 pub fn file_cut(s: &[u8], i: usize) -> u64 {
-    match archive::open_file(fields::bytes_of(s, Span { start: 0, len: i })) {
+    match answers::open_file(fields::bytes_of(s, Span { start: 0, len: i })) {
         HeaderAnswer::Refused(k) => k as u64,
         HeaderAnswer::Header(_) => 0,
     }
@@ -198,9 +199,9 @@ fn fill_one(
     slots: &mut [u32],
 ) -> FillAnswer {
     if words == 3 {
-        return grid::fill_leaf_numbered(s, grid, leaf, slots);
+        return leaves::fill_leaf_numbered(s, grid, leaf, slots);
     }
-    grid::fill_leaf_named(s, name, leaf, slots)
+    leaves::fill_leaf_named(s, name, leaf, slots)
 }
 
 fn fill_joined(
@@ -262,23 +263,23 @@ fn low(n: u64) -> u32 {
 }
 
 fn descriptor_numbered(s: &[u8], k: u32) {
-    descriptor(archive::grid_numbered(s, k), s);
+    descriptor(answers::grid_numbered(s, k), s);
 }
 
 fn descriptor_named(s: &[u8], name: &[u8]) {
-    descriptor(archive::grid_named(s, name), s);
+    descriptor(answers::grid_named(s, name), s);
 }
 
 fn file_entry(s: &[u8], name: &[u8]) {
-    entry(archive::file_entry(s, name), s);
+    entry(answers::file_entry(s, name), s);
 }
 
 fn entry_numbered(s: &[u8], k: u32, name: &[u8]) {
-    entry(archive::grid_entry_numbered(s, k, name), s);
+    entry(answers::grid_entry_numbered(s, k, name), s);
 }
 
 fn entry_named(s: &[u8], grid: &[u8], name: &[u8]) {
-    entry(archive::grid_entry_named(s, grid, name), s);
+    entry(answers::grid_entry_named(s, grid, name), s);
 }
 
 fn open_numbered(s: &[u8], k: u32) {

@@ -37,7 +37,7 @@ pub struct Run {
 }
 
 // The bytes of a mask of a piece, by its level; there are three levels.
-fn mask_bytes(level: u32) -> usize
+pub fn mask_bytes(level: u32) -> usize
     ensures { λ r. ⌜ (r ≡ maskBytes level) × (r % 8 ≡ 0) × (r ≤ 4096) ⌝ }
 {
     match level {
@@ -545,7 +545,7 @@ fn span(level: u32) -> u32
 }
 
 // Whether words can be those of a walk in a piece, whose masks have n bytes.
-fn is_inside(s: &[u8], n: usize, w: Inside) -> bool
+pub fn is_inside(s: &[u8], n: usize, w: Inside) -> bool
     requires { ⌜ (n ≡ maskBytes (w .level)) × (w .level < 3) ⌝ }
     ensures { λ r. ⌜ r ≡ isInside (now (s .entry)) w ⌝ }
 {

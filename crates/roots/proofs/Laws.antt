@@ -16,10 +16,9 @@ use Rattle.fields.specs.declared.IVec3.{IVec3}
 use Rattle.fields.proofs.Laws.{then-fails, then-got, Always, then-always, check-always, got-always}
 use Rattle.fields.proofs.Laws.{field-back, field-long, field-whole, field-past, then-back, check-back, check-passes, check-fails}
 use Rattle.fields.proofs.Ends.{made-ends, many-ends, field-ends}
-use Rattle.coordinates.specs.Coordinates.{aligned}
+use Rattle.coordinates.specs.Coordinates.{aligned, sameCoord, originOf}
 use Rattle.coordinates.specs.declared.GlobalCoord.{GlobalCoord}
 use Rattle.coordinates.proofs.Axis.{and-both}
-use Rattle.nodes.specs.Nodes.{sameCoord, originOf}
 use Rattle.roots.specs.Roots.{isAmong, originField, rootCountField, tilesField, treeHeadField}
 
 -- Root tiles that are passed one by one are passed by one length.
@@ -81,6 +80,13 @@ head-inside s limit at =
     let here : t ≤ length s = (let v = k .1 in let w : t ≡ b .1 = cc in omega (arith, u .0, u .2)) in
     let ends = made-ends s t _ (λ ts. tt) (many-ends s (λ u q. bytesField s 17 q) (λ u q l. field-ends s q 17 _) _ t here) in
     (few, ends passed n f .1))
+
+-- the roots start where what stands before them ends
+pub head-end : (s : List ℕ) (limit at : ℕ) → Always (λ h p. p ≡ h .«roots_pos») (treeHeadField s limit at)
+unfolding treeHeadField
+head-end s limit at =
+    then-always _ _ _ λ one p e. then-always _ _ _ λ background q e. then-always _ _ _ λ tiles r e. then-always _ _ _ λ roots t e.
+    then-always _ _ _ λ passed n e. got-always _ _ _ refl
 
 -- a coordinate among those from the k-th to the n-th: the k-th is it, or is not, or none is left
 module _ (o : GlobalCoord) (l : List GlobalCoord) (k n : ℕ) where

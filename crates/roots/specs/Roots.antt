@@ -5,9 +5,8 @@ use mathlib.Core.Bool.{Bool, false, not, _&&_, _||_}
 use lib.Dec.{leb, eqb}
 use Rattle.fields.specs.Parse.{Parse, got, then, check, times}
 use Rattle.fields.specs.Fields.{u32Field, iVec3Field, bytesField}
-use Rattle.coordinates.specs.Coordinates.{aligned}
+use Rattle.coordinates.specs.Coordinates.{aligned, sameCoord, originOf}
 use Rattle.coordinates.specs.declared.GlobalCoord.{GlobalCoord}
-use Rattle.nodes.specs.Nodes.{sameCoord, originOf}
 use Rattle.roots.specs.declared.TreeHead.{TreeHead}
 
 -- a count of buffers, which is 1: check 15

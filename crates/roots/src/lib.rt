@@ -118,7 +118,7 @@ fn is_among(origins: [GlobalCoord; 256], n: usize, o: GlobalCoord) -> bool
     let mut k = 0;
     while k < n {
         let e = origins[k];
-        if nodes::same_coord(e, o) {
+        if coordinates::same_coord(e, o) {
             return true;
         }
         k = k + 1;
@@ -145,7 +145,7 @@ pub fn read_origin(s: &[u8], origins: [GlobalCoord; 256], n: usize, at: usize) -
     let IVec3Field::Got(v, p) = fields::read_i_vec3(s, at) else {
         return OriginField::Refused(2);
     };
-    let o = nodes::origin_of(v);
+    let o = coordinates::origin_of(v);
     if !is_new_origin(origins, n, o) {
         return OriginField::Refused(17);
     }

@@ -1,7 +1,7 @@
 -- A row and its columns.
-use mathlib.Core.Path.{_≡_, refl, sym, ap, _∙_}
+use mathlib.Core.Path.{_≡_, refl, ap, _∙_}
 use mathlib.Core.List.{List, [], _∷_, _++_, map}
-use Prim.Native.Nat.{ℕ, zero, suc, _+_, _-_, _≤_, _<_, min}
+use Prim.Native.Nat.{ℕ, zero, suc, _+_, _-_, _≤_, _<_}
 use native.Mathlib.Nat.{add-zero, sub-zero}
 use native.Mathlib.Numerals.{add-one}
 use native.Mathlib.Omega.{arith}
@@ -9,7 +9,7 @@ use lib.IntN.{ℤ, pos}
 use lib.ListN.{length, getD, set, take, drop, length-map}
 use lib.Seq.{sets, sets-eq, take-at}
 use Rattle.tree.specs.Active.{Record}
-use Rattle.records.specs.Slots.{Slots, slotsOf, slotCount, put, laid}
+use Rattle.records.specs.Slots.{Slots, slotCount, laid}
 use Rattle.walk.specs.Demand3.{rows}
 use Rattle.rows.specs.Rows.{rowOf, columns}
 use Rattle.rows.specs.declared.Record.{Record as Row}

@@ -1,10 +1,10 @@
 -- Demand 3 of calls over rows: in columns they are calls over five slices.
 use mathlib.Core.Path.{_≡_, refl, sym, ap, _∙_}
-use mathlib.Core.List.{List, [], _∷_, _++_, map, map-append, cons-ne-nil}
-use Prim.Native.Nat.{ℕ, zero, suc, _+_, _≤_, _<_}
+use mathlib.Core.List.{List, [], _∷_, map, map-append, cons-ne-nil}
+use Prim.Native.Nat.{ℕ, zero, suc, _+_, _≤_}
 use native.Mathlib.Omega.{arith}
 use lib.IntN.{pos}
-use lib.ListN.{length, getD, take, drop, length-map, List·getD-map}
+use lib.ListN.{length, take, drop, length-map, List·getD-map}
 use lib.Seq.{drop-cons}
 use Rattle.archive.specs.Answer.{gives}
 use Rattle.archive.specs.declared.Asked.{Asked}

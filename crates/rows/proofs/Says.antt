@@ -1,22 +1,21 @@
 -- Several calls of the core, one after the other, say what one call says.
-use mathlib.Core.Path.{_≡_, refl, sym, ap, subst, _∙_}
-use mathlib.Core.List.{List, [], _∷_, _++_, append-assoc, append-nil}
+use mathlib.Core.Path.{_≡_, refl, sym, ap, _∙_}
+use mathlib.Core.List.{List, [], _++_, append-assoc, append-nil}
 use Prim.Native.Nat.{ℕ, zero, suc, _+_, _-_, _≤_, _<_, min}
 use native.Mathlib.Nat.{zero-add, add-assoc, sub-zero}
 use native.Mathlib.Omega.{arith}
-use lib.Dec.{eqb}
 use lib.ListN.{length, take, drop, length-take, length-drop, length-append}
 use lib.Seq.{take-add, drop-drop}
 use borrow.Author.Tests.{ne-eqb}
 use Rattle.fields.specs.Parse.{when}
-use Rattle.archive.specs.Answer.{Answer, gives, refuses}
+use Rattle.archive.specs.Answer.{gives}
 use Rattle.archive.specs.declared.Asked.{Asked}
 use Rattle.archive.proofs.Laws.{gives-same}
 use Rattle.tree.specs.Active.{Record}
 use Rattle.records.specs.Slots.{Slots, slotCount, laid}
 use Rattle.grid.specs.Grid.{Grid, grid, activeOf, placeAfter}
 use Rattle.place.specs.declared.Place.{Place}
-use Rattle.walk.specs.Walk.{saysWalk, nextRecords, walkedTo, Promise}
+use Rattle.walk.specs.Walk.{nextRecords, walkedTo, LeftBehind, Promise}
 use Rattle.walk.specs.Demand3.{inSlots}
 use Rattle.walk.proofs.Demand3.{take-there, rows-laid}
 use Rattle.walk.proofs.Laws.{refuses-gives}
@@ -60,6 +59,7 @@ says-of s p t (HasWalked w) t′ q =
           (d .0, rw (n, d .1) (rows-laid t 0 next k));
       some-records = λ v e. (rows-length t′ 0 (w .filled) ∙ ap (λ (w : Walked). w .filled) (gives-same e), q .some-records v e .2);
       refused = λ n e. absurd (refuses-gives (sym e));
+      left-behind = q .left-behind;
       no-slots = q .no-slots;
       past-end = q .past-end;
     }
@@ -68,6 +68,7 @@ says-of s p t (WalkRefused k) t′ q =
       reached = λ asked name g m e l f. absurd (refuses-gives (q .reached asked name g m e l f .0));
       some-records = λ v e. absurd (refuses-gives e);
       refused = λ n e. (q .refused n e .0, refl);
+      left-behind = q .left-behind;
       no-slots = q .no-slots;
       past-end = q .past-end;
     }
@@ -79,6 +80,7 @@ promise-of {t = t} {rs = rs} q e =
       reached = λ asked name g m a l f. let d = q .reached asked name g m a l f in (d .0, e ∙ ap (laid t 0) (d .1));
       some-records = λ w h. let d = q .some-records w h in (rs, d .0, d .1, e);
       refused = λ n h. let d = q .refused n h in (d .0, e ∙ ap (laid t 0) (d .1));
+      left-behind = q .left-behind;
       no-slots = q .no-slots;
       past-end = q .past-end;
     }
@@ -89,6 +91,13 @@ says-few s p k (HasWalked w) rs q = let d = q .some-records w refl in omega (ari
 says-few s p k (WalkRefused n) rs q = rw (q .refused n refl .1) (omega arith)
 
 -- ---- A second call goes on from where the first one stopped.
+-- what is left behind an answer, for another number of slots; and behind two calls, of which the first handed out records
+left-for : {p : Place} {k n : ℕ} {w : Walked} → LeftBehind p k w → (0 < n → 0 < p .left → 0 < w .filled) → LeftBehind p n w
+left-for x f = record { start = x .start; most = x .most; left = x .left; in-place = x .in-place; some = f }
+
+left-joined : {p : Place} {k j n : ℕ} {v u : Walked} → LeftBehind p k v → LeftBehind (v .place) j u → 0 < v .filled → LeftBehind p n (counted v u)
+left-joined x y h = record { start = y .start ∙ x .start; most = omega arith; left = omega arith; in-place = y .in-place; some = λ a b. omega arith }
+
 module _ (s : List ℕ) (g : Grid) (m k n : ℕ) (h : k ≤ n) where
   abbrev first : List Record
   first = nextRecords s g m k
@@ -107,14 +116,15 @@ module _ {s : List ℕ} {p : Place} {k n : ℕ} {v : Walked} {rs : List Record} 
   few = q .some-records v refl .1
 
   -- an answer with records: what is left to show of it
-  walks : (w : Walked) (all : List Record) → length all ≡ w .filled → w .filled ≤ n →
+  walks : (w : Walked) (all : List Record) → length all ≡ w .filled → w .filled ≤ n → LeftBehind p n w →
       ((asked : Asked) (name : List ℕ) (g : Grid) (m : ℕ) → gives g ≡ grid s asked name → m ≤ length (activeOf s g) → p ≡ placeAfter s g m →
       (gives w ≡ gives (walkedTo s g m (length (nextRecords s g m n)))) × (all ≡ nextRecords s g m n)) → Says s p n (HasWalked w) all
-  walks w all l f d =
+  walks w all l f b d =
       record {
         reached = d;
         some-records = λ u e. let z = gives-same e in (rw (← z) l, rw (← z) f);
         refused = λ j e. absurd (refuses-gives (sym e));
+        left-behind = λ u e. rw (← gives-same e) b;
         no-slots = λ e. absurd (omega (arith, few));
         past-end = λ a b c. absurd (refuses-gives (sym (q .past-end (omega (arith, few)) b c)));
       }
@@ -124,7 +134,8 @@ module _ {s : List ℕ} {p : Place} {k n : ℕ} {v : Walked} {rs : List Record} 
   join (HasWalked u) more b =
       let l = q .some-records v refl .0 in
       let c = b .some-records u refl in
-      walks (counted v u) (rs ++ more) (rw length-append (omega arith)) (omega (arith, few)) (λ asked name g m e i f.
+      let behind = left-joined (q .left-behind v refl) (b .left-behind u refl) some-filled in
+      walks (counted v u) (rs ++ more) (rw length-append (omega arith)) (omega (arith, few)) behind (λ asked name g m e i f.
       let d = q .reached asked name g m e i f in
       let first = nextRecords s g m k in
       let x : v ≡ walkedTo s g m (length first) = gives-same (d .0) in
@@ -133,7 +144,7 @@ module _ {s : List ℕ} {p : Place} {k n : ℕ} {v : Walked} {rs : List Record} 
   join (WalkRefused j) more b =
       let l = q .some-records v refl .0 in
       let e : more ≡ [] = b .refused j refl .1 in
-      rw (ne-eqb (v .filled) 0 (λ z. omega arith), e, append-nil) (walks v rs l (omega (arith, few)) (λ asked name g m e i f.
+      rw (ne-eqb (v .filled) 0 (λ z. omega arith), e, append-nil) (walks v rs l (omega (arith, few)) (left-for (q .left-behind v refl) (λ i j. some-filled)) (λ asked name g m e i f.
       let d = q .reached asked name g m e i f in
       let first = nextRecords s g m k in
       let x : v ≡ walkedTo s g m (length first) = gives-same (d .0) in
@@ -148,6 +159,7 @@ widen s p k n r rs q z l h =
           rw (take-none k n (drop m (activeOf s g)) (rw (d .1) at z) h) d;
       some-records = λ w e. let d = q .some-records w e in (d .0, omega (arith, d .1));
       refused = q .refused;
+      left-behind = λ w e. let d = q .left-behind w e in left-for d (λ i. d .some (some-wanted k n h i));
       no-slots = λ e. q .no-slots (omega arith);
       past-end = λ a. q .past-end (some-wanted k n h a);
     }

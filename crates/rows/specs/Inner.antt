@@ -11,7 +11,7 @@ use Rattle.archive.specs.declared.Asked.{Asked}
 use Rattle.tree.specs.Active.{Record}
 use Rattle.grid.specs.Grid.{Grid, grid, activeOf, placeAfter}
 use Rattle.place.specs.declared.Place.{Place}
-use Rattle.walk.specs.Walk.{saysWalk, nextRecords, walkedTo, neededNext}
+use Rattle.walk.specs.Walk.{saysWalk, nextRecords, walkedTo, neededNext, LeftBehind}
 use Rattle.walk.specs.declared.Walked.{Walked}
 use Rattle.walk.specs.declared.WalkAnswer.{WalkAnswer}
 use Rattle.walk.specs.declared.WalkAnswer.the-variants.{Walked as HasWalked, Refused as WalkRefused}
@@ -25,6 +25,7 @@ pub record Says (s : List ℕ) (p : Place) (k : ℕ) (r : WalkAnswer) (rs : List
       (saysWalk r ≡ gives (walkedTo s g m (length (nextRecords s g m k)))) × (rs ≡ nextRecords s g m k)
   pub some-records : (w : Walked) → saysWalk r ≡ gives w → (length rs ≡ w .filled) × (w .filled ≤ k)
   pub refused : (n : ℕ) → saysWalk r ≡ refuses n → (n ≡ 22) × (rs ≡ [])
+  pub left-behind : (w : Walked) → saysWalk r ≡ gives w → LeftBehind p k w
   pub no-slots : k ≡ 0 → saysWalk r ≡ gives (record { place = p; filled = 0; left = p .left })
   pub past-end : 0 < k → 0 < p .left → length s < neededNext p .start + neededNext p .bytes → saysWalk r ≡ refuses 22
 

@@ -9,7 +9,7 @@ use lib.ListN.{length}
 use Rattle.fields.specs.Parse.{when, many}
 use Rattle.fields.proofs.Agree.{Each, each-append, Tells, got-tells, then-tells, then-plain, swap-tells, each-tells, many-tells, part-tells, keep, SameFor}
 use Rattle.coordinates.specs.declared.GlobalCoord.{GlobalCoord}
-use Rattle.coordinates.specs.Coordinates.{index, places, globalOf, rootOrigin}
+use Rattle.coordinates.specs.Coordinates.{index, places, globalOf, rootOrigin, sameCoord}
 use Rattle.coordinates.proofs.Laws.{place-below}
 use Rattle.masks.specs.Masks.{maskBit, onesFrom, consIf, countBelow}
 use Rattle.masks.proofs.Laws.{ones-ext}
@@ -17,32 +17,28 @@ use Rattle.masks.proofs.Agree.{bit-same, ones-same}
 use Rattle.values.specs.declared.Coding.{Coding}
 use Rattle.values.proofs.Agree.{SameValues, place-same}
 use Rattle.half.specs.Inner.{isWidth}
-use Rattle.nodes.specs.Nodes.{sameCoord}
 use Rattle.nodes.proofs.Agree.{SameNode, SameLeaf, SameBlock, node-tells, block-tells}
-use Rattle.roots.proofs.Agree.{origin-reads, head-reads}
+use Rattle.roots.proofs.Agree.{origin-reads}
 use Rattle.tree.specs.Active.{Record, sideOf, edgeOf, joined, Piece, leafPiece, piece4, piece5, pieces4, pieces5, pieces}
 use Rattle.tree.specs.Active.{recordAt, recordsOf, activeList, allBlocks, Spot, placeIn, spotAt, below, spot4, spot5, spot}
-use Rattle.tree.specs.Topology.{Node4, Node5, Tree, leafField, node4Field, childField, node5Field}
-use Rattle.tree.specs.Topology.{rootField, rootsField, topology}
+use Rattle.tree.specs.Topology.{Node4, Node5, leafField, node4Field, childField, node5Field}
+use Rattle.tree.specs.Topology.{rootField, rootsField}
 use Rattle.tree.specs.Blocks.{Filled4, Filled5, filled4, filled5, blocksField}
 use Rattle.tree.proofs.Lists.{each-map, each-joined, map-same, joined-same}
 use Rattle.tree.proofs.Cover.{side-positive, edge-positive}
 
--- a 4-node and its leaves' masks are the same in both files, a 5-node and all below it, and a tree
+-- a 4-node and its leaves' masks are the same in both files, a 5-node and all below it
 abbrev pub Same4 : List ℕ → List ℕ → Coding → Node4 → Type 0
 Same4 s t c n = SameNode s t c 512 (n .header) × Each (SameLeaf s t) (n .leaves)
 
 abbrev pub Same5 : List ℕ → List ℕ → Coding → Node5 → Type 0
 Same5 s t c n = SameNode s t c 4096 (n .header) × Each (Same4 s t c) (n .nodes)
 
-abbrev pub SameTree : List ℕ → List ℕ → Coding → Tree → Type 0
-SameTree s t c tree = Each (Same5 s t c) (tree .roots)
-
-leaf-tells : {s t : List ℕ} {lo at : ℕ} (origin : GlobalCoord) (p : ℕ) → Tells s t lo at (SameLeaf s t) (leafField s origin p at) (leafField t origin p at)
+pub leaf-tells : {s t : List ℕ} {lo at : ℕ} (origin : GlobalCoord) (p : ℕ) → Tells s t lo at (SameLeaf s t) (leafField s origin p at) (leafField t origin p at)
 unfolding leafField
 leaf-tells {s} {t} origin p = then-tells (part-tells 64) λ mask q e x. got-tells (SameLeaf s t) x
 
-node4-tells : {s t : List ℕ} {lo at : ℕ} (c : Coding) (origin : GlobalCoord) → Tells s t lo at (Same4 s t c) (node4Field s c origin at) (node4Field t c origin at)
+pub node4-tells : {s t : List ℕ} {lo at : ℕ} (c : Coding) (origin : GlobalCoord) → Tells s t lo at (Same4 s t c) (node4Field s c origin at) (node4Field t c origin at)
 unfolding node4Field
 node4-tells {s} {t} c origin =
     then-tells (node-tells 512 c) λ h p e x.
@@ -56,20 +52,16 @@ node5-tells {s} {t} c origin =
     then-tells (swap-tells (λ l k. ap (λ (ones : List ℕ). many (childField t c origin) ones p) (ones-same 4096 (x l k .child-mask))) (many-tells _ (λ i at. node4-tells c _))) λ nodes q f y.
     got-tells (Same5 s t c) λ l k. (keep f x l k, y l k)
 
-root-tells : {s t : List ℕ} {lo at : ℕ} (earlier : List GlobalCoord) (c : Coding) → Tells s t lo at (Same5 s t c) (rootField s c earlier at) (rootField t c earlier at)
+pub root-tells : {s t : List ℕ} {lo at : ℕ} (earlier : List GlobalCoord) (c : Coding) → Tells s t lo at (Same5 s t c) (rootField s c earlier at) (rootField t c earlier at)
 unfolding rootField
 root-tells earlier c = then-plain (origin-reads earlier) λ o p e. node5-tells c o
 
-roots-tells :
+pub roots-tells :
     {s t : List ℕ} {lo at : ℕ} (k : ℕ) (earlier : List GlobalCoord) (c : Coding) → Tells s t lo at (Each (Same5 s t c)) (rootsField s c k earlier at) (rootsField t c k earlier at)
 unfolding rootsField
 roots-tells {s} {t} zero earlier c = got-tells (Each (Same5 s t c)) λ l h. tt
 roots-tells {s} {t} (suc k) earlier c =
     then-tells (root-tells earlier c) λ n p e x. then-tells (roots-tells k _ c) λ ns q f y. got-tells (Each (Same5 s t c)) λ l h. (keep f x l h, y l h)
-
-pub topology-tells : {s t : List ℕ} {lo at : ℕ} (c : Coding) (limit : ℕ) → Tells s t lo at (SameTree s t c) (topology s c limit at) (topology t c limit at)
-unfolding topology
-topology-tells {s} {t} c limit = then-plain (head-reads limit) λ head p e. then-tells (roots-tells _ [] c) λ roots q f x. got-tells (SameTree s t c) x
 
 -- The blocks, of a tree that is the same.
 abbrev pub SameFilled4 : List ℕ → List ℕ → Coding → Filled4 → Type 0
@@ -98,7 +90,7 @@ maskBytes (suc zero) = 512
 maskBytes (suc (suc zero)) = 4096
 maskBytes (suc (suc (suc n))) = 0
 
-mask-places : (level : ℕ) → places (edgeOf level) ≡ 8 * maskBytes level
+pub mask-places : (level : ℕ) → places (edgeOf level) ≡ 8 * maskBytes level
 mask-places zero = refl
 mask-places (suc zero) = refl
 mask-places (suc (suc zero)) = refl

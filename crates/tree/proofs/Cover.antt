@@ -6,11 +6,10 @@ use Prim.Native.Nat.{ℕ, zero, suc, _+_, _-_, _*_, _<_, _≤_}
 use native.Mathlib.Nat.{sub-zero}
 use native.Mathlib.Omega.{arith}
 use lib.Dec.{lit<, lit≤}
-use lib.IntN.{ℤ, pos, negsuc}
 use borrow.Author.Tests.{eqb-true, eq-eqb}
 use lib.ListN.{length, getD, List·getD-map}
 use Rattle.fields.specs.Parse.{when}
-use Rattle.coordinates.specs.Coordinates.{index, places, globalOf, rootOrigin, covers, aligned}
+use Rattle.coordinates.specs.Coordinates.{index, places, globalOf, rootOrigin, covers, aligned, sameCoord}
 use Rattle.coordinates.specs.declared.Index.{Index}
 use Rattle.coordinates.specs.declared.GlobalCoord.{GlobalCoord}
 use Rattle.coordinates.proofs.Axis.{and-both}
@@ -18,7 +17,7 @@ use Rattle.coordinates.proofs.Laws.{inside-parent, place-below, way-back, way-b
 use Rattle.masks.specs.Masks.{maskBit, ones, countBelow, overlap}
 use Rattle.masks.proofs.Laws.{ones-mem, ones-split, one-nth, overlap-apart}
 use Rattle.values.specs.declared.Coding.{Coding}
-use Rattle.nodes.specs.Nodes.{sameInt, sameCoord}
+use Rattle.coordinates.proofs.Same.{same-coord, coord-same}
 use Rattle.nodes.specs.declared.Block.{Block}
 use Rattle.roots.specs.Roots.{isAmong}
 use Rattle.roots.proofs.Laws.{among-more}
@@ -192,32 +191,6 @@ module _ (s : List ℕ) (c : Coding) (v : GlobalCoord) where
       (ones (maskBit s (f .node .header .child)) 32768) (f .node .nodes) (f .nodes) (r .children) same)
 
 -- 4. The roots.
-same-int : (a b : ℤ) → sameInt a b ≡ true → a ≡ b
-unfolding sameInt
-same-int (pos a) (pos b) e = ap pos (eqb-true a b e)
-same-int (pos a) (negsuc b) e = absurd (false≢true e)
-same-int (negsuc a) (pos b) e = absurd (false≢true e)
-same-int (negsuc a) (negsuc b) e = ap negsuc (eqb-true a b e)
-
-int-same : (a : ℤ) → sameInt a a ≡ true
-unfolding sameInt
-int-same (pos a) = eq-eqb a a refl
-int-same (negsuc a) = eq-eqb a a refl
-
-same-coord : (a b : GlobalCoord) → sameCoord a b ≡ true → a ≡ b
-unfolding sameCoord
-same-coord a b e =
-    let f = and-both _ _ e in
-    let g = and-both _ _ (f .1) in
-    let x = same-int (a .0) (b .0) (f .0) in
-    let y = same-int (a .1) (b .1) (g .0) in
-    let z = same-int (a .2) (b .2) (g .1) in
-    λ i. (x i, y i, z i)
-
-coord-same : (a : GlobalCoord) → sameCoord a a ≡ true
-unfolding sameCoord
-coord-same a = rw (int-same (a .0), int-same (a .1), int-same (a .2))
-
 module _ (s : List ℕ) (c : Coding) (v : GlobalCoord) where
   -- a root's cube has the voxel exactly when its origin is that of the voxel's root
   root-holds : (o : GlobalCoord) → aligned 4096 o ≡ true → covers o 4096 v ≡ sameCoord o (rootOrigin v)

@@ -10,12 +10,12 @@ use Rattle.fields.specs.Parse.{got, when}
 use Rattle.coordinates.specs.declared.GlobalCoord.{GlobalCoord}
 use Rattle.values.specs.declared.Coding.{Coding}
 use Rattle.roots.specs.Roots.{isAmong}
-use Rattle.tree.specs.Topology.{Tree, topology}
+use Rattle.tree.specs.Topology.{Node5, rootsField}
 use Rattle.tree.specs.Blocks.{Filled5, blocksField}
 use Rattle.tree.specs.Active.{Record, Spot, coveredBy, pieces, recordsOf, activeList, spot}
 use Rattle.tree.specs.Inner.{covering, named}
-use Rattle.tree.proofs.Lists.{Paired, kept-joined, kept-from, kept-to, kept-two}
-use Rattle.tree.proofs.Read.{Fills5, tree-read, same-tree}
+use Rattle.tree.proofs.Lists.{kept-joined, kept-from, kept-to, kept-two}
+use Rattle.tree.proofs.Read.{roots-read, same-tree}
 use Rattle.tree.proofs.Cover.{roots-cover}
 
 named-to : (t : Spot) (r : Record) → List·Memᴰ r (named t) → (t .active ≡ true) × (t .place ≡ r)
@@ -38,30 +38,29 @@ named-length t = go (t .active)
     go true = omega arith
     go false = omega arith
 
--- A tree that was read from the bytes s, and the blocks that were read for it, wherever they stand.
-pub record Parsed (s : List ℕ) (c : Coding) (tree : Tree) (filled : List Filled5) : Type 0 where
-  pub limit : ℕ
+-- Roots that were read from the bytes s, and the blocks that were read for them, wherever they stand.
+pub record Parsed (s : List ℕ) (c : Coding) (roots : List Node5) (filled : List Filled5) : Type 0 where
+  pub count : ℕ
   pub start : ℕ
   pub end : ℕ
   pub block : ℕ
   pub past : ℕ
-  pub topology-read : got tree end ≡ topology s c limit start
-  pub blocks-read : got filled past ≡ blocksField s c (tree .roots) block
+  pub roots-read : got roots end ≡ rootsField s c count [] start
+  pub blocks-read : got filled past ≡ blocksField s c roots block
 
-module _ {s : List ℕ} {c : Coding} {tree : Tree} {filled : List Filled5} (t : Parsed s c tree filled) where
-  same : Paired (Fills5 s) (tree .roots) filled
-  same = same-tree s c (tree .roots) (t .block) filled (t .past) (t .blocks-read)
-
+-- Whatever value the background has, of which no record is made.
+module _ {s : List ℕ} {c : Coding} {roots : List Node5} {filled : List Filled5} (t : Parsed s c roots filled) (background : ℕ) where
   -- The records of the active list that cover a voxel, in list order: the one that the descent names, where it says active, else none.
-  pub coverage : (v : GlobalCoord) → covering v (activeList s c filled) ≡ named (spot s c (tree .head .background) filled v)
+  pub coverage : (v : GlobalCoord) → covering v (activeList s c filled) ≡ named (spot s c background filled v)
   unfolding pieces isAmong when
   coverage v =
       kept-joined (λ r. coveredBy r v) (recordsOf s c) (pieces filled)
-      ∙ roots-cover s c v (tree .head .background) (tree .roots) filled [] (tree-read s c (t .limit) (t .start) tree (t .end) (t .topology-read)) same
+      ∙ roots-cover s c v background roots filled [] (roots-read (t .count) [] s c (t .start) roots (t .end) (t .roots-read))
+      (same-tree s c roots (t .block) filled (t .past) (t .blocks-read))
 
   -- A record is listed and covers a voxel exactly when the descent says that the voxel is active, with this record's corner, level and value.
   pub listed-covers : (r : Record) (v : GlobalCoord) →
-      (List·Memᴰ r (activeList s c filled) × (coveredBy r v ≡ true)) ↔ ((spot s c (tree .head .background) filled v .active ≡ true) × (spot s c (tree .head .background) filled v .place ≡ r))
+      (List·Memᴰ r (activeList s c filled) × (coveredBy r v ≡ true)) ↔ ((spot s c background filled v .active ≡ true) × (spot s c background filled v .place ≡ r))
   unfolding when
   listed-covers r v = (
     λ h. named-to _ r (rw (coverage v) at (kept-from (λ r. coveredBy r v) r (activeList s c filled) (h .0) (h .1))),
@@ -69,7 +68,7 @@ module _ {s : List ℕ} {c : Coding} {tree : Tree} {filled : List Filled5} (t : 
   )
 
   -- A voxel is covered by a listed record exactly when the descent says that it is active.
-  pub covered-spot : (v : GlobalCoord) → ((r : Record) × List·Memᴰ r (activeList s c filled) × (coveredBy r v ≡ true)) ↔ (spot s c (tree .head .background) filled v .active ≡ true)
+  pub covered-spot : (v : GlobalCoord) → ((r : Record) × List·Memᴰ r (activeList s c filled) × (coveredBy r v ≡ true)) ↔ (spot s c background filled v .active ≡ true)
   covered-spot v = (
     λ h. listed-covers (h .0) v .0 (h .1, h .2) .0,
     λ h. let k = listed-covers _ v .1 (h, refl) in (_, k .0, k .1),
@@ -80,4 +79,4 @@ module _ {s : List ℕ} {c : Coding} {tree : Tree} {filled : List Filled5} (t : 
       (v : GlobalCoord) (i j : ℕ) (d : Record) → i < j → j < length (activeList s c filled) → coveredBy (getD (activeList s c filled) i d) v ≡ true →
       coveredBy (getD (activeList s c filled) j d) v ≡ true → ⊥
   records-apart v i j d h k x y =
-      omega (arith, kept-two (λ r. coveredBy r v) (activeList s c filled) i j d h k x y, ap length (coverage v), named-length (spot s c (tree .head .background) filled v))
+      omega (arith, kept-two (λ r. coveredBy r v) (activeList s c filled) i j d h k x y, ap length (coverage v), named-length (spot s c background filled v))

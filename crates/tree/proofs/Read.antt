@@ -15,7 +15,7 @@ use Rattle.nodes.specs.declared.Block.{Block}
 use Rattle.nodes.proofs.Laws.{node-back, block-back}
 use Rattle.roots.specs.Roots.{isAmong, originField}
 use Rattle.roots.proofs.Laws.{origin-new}
-use Rattle.tree.specs.Topology.{Node4, Node5, leafField, node4Field, childField, node5Field, rootField, rootsField, topology}
+use Rattle.tree.specs.Topology.{Node4, Node5, leafField, node4Field, childField, node5Field, rootField, rootsField}
 use Rattle.tree.specs.Blocks.{Filled4, Filled5, filled4, filled5, blocksField}
 use Rattle.tree.proofs.Lists.{Paired, many-each}
 
@@ -51,7 +51,7 @@ abbrev pub Roots : List ℕ → List Node5 → List GlobalCoord → Type 0
 Roots s [] earlier = Unit {0}
 Roots s (n ∷ ns) earlier = (aligned 4096 (n .origin) ≡ true) × (isAmong (n .origin) earlier ≡ false) × Read5 s (n .origin) n × Roots s ns (earlier ++ n .origin ∷ [])
 
-roots-read : (k : ℕ) (earlier : List GlobalCoord) (s : List ℕ) (c : Coding) (at : ℕ) → Always (λ ns q. Roots s ns earlier) (rootsField s c k earlier at)
+pub roots-read : (k : ℕ) (earlier : List GlobalCoord) (s : List ℕ) (c : Coding) (at : ℕ) → Always (λ ns q. Roots s ns earlier) (rootsField s c k earlier at)
 unfolding rootsField rootField
 roots-read zero earlier s c at = got-always _ _ _ tt
 roots-read (suc k) earlier s c at =
@@ -60,10 +60,6 @@ roots-read (suc k) earlier s c at =
     let new = origin-new earlier s at (b .0) (b .1) (b .2) in
     let r = node5-read s c (b .0) (b .1) n p (b .3) in
     (rw (r .origin) (new .0), rw (r .origin) (new .1), record { origin = refl; apart = r .apart; children = r .children }, roots-read k (earlier ++ n .origin ∷ []) s c p ns q f))
-
-pub tree-read : (s : List ℕ) (c : Coding) (limit at : ℕ) → Always (λ t q. Roots s (t .roots) []) (topology s c limit at)
-unfolding topology
-tree-read s c limit at = then-always _ _ _ λ head p d. then-always _ _ _ λ roots q e. got-always _ _ _ (roots-read _ [] s c p roots q e)
 
 -- The filled tree's nodes are the topology's nodes; its blocks have the topology's origins and masks.
 abbrev pub FillsLeaf : List ℕ → Leaf → Block → Type 0

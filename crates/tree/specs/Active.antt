@@ -4,13 +4,12 @@ use mathlib.Core.List.{List, [], _∷_, _++_, map}
 use mathlib.Core.Bool.{Bool, false}
 use lib.ListN.{getD}
 use Rattle.fields.specs.Parse.{when}
-use Rattle.coordinates.specs.Coordinates.{index, places, globalOf, rootOrigin, placeOf, covers}
+use Rattle.coordinates.specs.Coordinates.{index, places, globalOf, rootOrigin, placeOf, covers, sameCoord}
 use Rattle.coordinates.specs.declared.GlobalCoord.{GlobalCoord}
 use Rattle.masks.specs.Masks.{maskBit, ones, countBelow}
 use Rattle.values.specs.Values.{placeValue}
 use Rattle.values.specs.declared.Coding.{Coding}
 use Rattle.values.specs.declared.Values.{Values}
-use Rattle.nodes.specs.Nodes.{sameCoord}
 use Rattle.nodes.specs.declared.Block.{Block}
 use Rattle.tree.specs.Topology.{Node4, Node5}
 use Rattle.tree.specs.Blocks.{Filled4, Filled5}

@@ -10,8 +10,7 @@ use Rattle.values.specs.declared.Coding.{Coding}
 use Rattle.nodes.specs.Nodes.{nodeField}
 use Rattle.nodes.specs.declared.NodeHeader.{NodeHeader}
 use Rattle.nodes.specs.declared.Leaf.{Leaf}
-use Rattle.roots.specs.Roots.{originField, treeHeadField}
-use Rattle.roots.specs.declared.TreeHead.{TreeHead}
+use Rattle.roots.specs.Roots.{originField}
 
 pub record Node4 : Type 0 where
   pub origin : GlobalCoord
@@ -60,14 +59,3 @@ rootsField s c (suc k) earlier at =
     then (rootField s c earlier at) λ n p.
     then (rootsField s c k (earlier ++ (n .origin ∷ [])) p) λ ns q.
     got (n ∷ ns) q
-
--- the tree: what stands before its roots, and these
-pub record Tree : Type 0 where
-  pub head : TreeHead
-  pub roots : List Node5
-
-unfoldable pub topology : List ℕ → Coding → ℕ → ℕ → Parse Tree
-topology s c limit at =
-    then (treeHeadField s limit at) λ head p.
-    then (rootsField s c (head .«root_count») [] p) λ roots n.
-    got (record { head = head; roots = roots }) n

@@ -12,9 +12,9 @@ use Rattle.values.specs.declared.Selection.{Selection}
 use Rattle.values.specs.declared.Inactives.{Inactives}
 use Rattle.values.specs.declared.InactivesField.{InactivesField}
 use Rattle.values.specs.declared.InactivesField.the-variants.{Got as GotInactives, Past as PastInactives}
-use Rattle.values.specs.declared.Head.{Head}
-use Rattle.values.specs.declared.HeadField.{HeadField}
-use Rattle.values.specs.declared.HeadField.the-variants.{Got as GotHead, Refused as RefusedHead}
+use Rattle.values.specs.declared.ValuesHead.{ValuesHead}
+use Rattle.values.specs.declared.ValuesHeadField.{ValuesHeadField}
+use Rattle.values.specs.declared.ValuesHeadField.the-variants.{Got as GotHead, Refused as RefusedHead}
 use Rattle.values.specs.declared.Values.{Values}
 use Rattle.values.specs.declared.FormField.{FormField}
 use Rattle.values.specs.declared.FormField.the-variants.{Got as GotForm, Past as PastForm, Unknown as UnknownForm}
@@ -38,7 +38,7 @@ abbrev pub saysInactives : InactivesField → Parse Inactives
 saysInactives (GotInactives v n) = got v n
 saysInactives PastInactives = fails 2
 
-abbrev pub saysHead : HeadField → Parse Head
+abbrev pub saysHead : ValuesHeadField → Parse ValuesHead
 saysHead (GotHead h n) = got h n
 saysHead (RefusedHead k) = fails k
 

@@ -17,8 +17,12 @@ use Rattle.values.specs.declared.Stored.the-variants.{Every, Active, Chi
 use Rattle.values.specs.declared.Selection.{Selection}
 use Rattle.values.specs.declared.Selection.the-variants.{At, Nothing}
 use Rattle.values.specs.declared.Inactives.{Inactives}
-use Rattle.values.specs.declared.Head.{Head}
+use Rattle.values.specs.declared.ValuesHead.{ValuesHead}
 use Rattle.values.specs.declared.Values.{Values}
+
+-- check 6: the flags 0x1 and 0x4 say that values are packed
+unfoldable pub isPacked : ℕ → Bool
+isPacked flags = eqb (flags % 2) 1 || eqb (flags / 4 % 2) 1
 
 -- What the node byte b says. 2, 4 and 5 bring an inactive value, 5 one more; 3, 4 and 5 bring a selection mask; 6 stores inactive places too,
 -- also under flag 0x2.
@@ -72,7 +76,7 @@ storedBy c old form =
     (when (isActiveMask (c .flags) && form .«only_active») Active Every)
 
 -- what stands before the run of stored values
-unfoldable pub headField : List ℕ → Coding → Stored → ℕ → ℕ → Parse Head
+unfoldable pub headField : List ℕ → Coding → Stored → ℕ → ℕ → Parse ValuesHead
 headField s c old n at =
     then (formField s (c .version) at) λ form p.
     then (inactivesField s form n p) λ inactives q.

@@ -9,18 +9,20 @@ ghost use Rattle.masks.specs.Inner.{IsMask};
 ghost use Rattle.half.specs.Inner.{isTable, isWidth};
 ghost use Rattle.half.specs.Half.{storedValue};
 ghost use Rattle.fields.specs.Inner.{saysU32, saysSpan};
-ghost use Rattle.values.specs.Values.{formSelected, formField, inactiveField, selectionField, inactivesField, storedBy, headField, isStored, numberOf, countOf, runField, valuesField, inactiveValue, placeValue, leafValues};
+ghost use Rattle.values.specs.Values.{isPacked, formSelected, formField, inactiveField, selectionField, inactivesField, storedBy, headField, isStored, numberOf, countOf, runField, valuesField, inactiveValue, placeValue, leafValues};
 ghost use Rattle.values.specs.Inner.{selectionHeld, InRun, Held, saysForm, saysSelection, saysInactives, saysHead, saysValues};
 use coordinates::Index;
 use fields::SpanField;
 use fields::U8Field;
 use fields::U32Field;
 
-// How a grid's values are stored: the file's version, the grid's flags, and the width of a stored value, 2 or 4 bytes.
+// How a grid's values are stored: the file's version, the grid's flags, the width of a stored value, 2 or 4 bytes, and the pattern of the grid's
+// background.
 pub struct Coding {
     pub version: u32,
     pub flags: u32,
     pub width: usize,
+    pub background: u32,
 }
 
 // What a node byte selects: whether a first and a second inactive value are carried, whether a selection mask is, and whether flag 0x2
@@ -53,7 +55,7 @@ pub struct Inactives {
 }
 
 // What stands before a node's run of stored values: which places are stored, and what the inactive places hold.
-pub struct Head {
+pub struct ValuesHead {
     pub stored: Stored,
     pub inactives: Inactives,
 }
@@ -89,14 +91,24 @@ pub enum InactivesField {
     Past,
 }
 
-pub enum HeadField {
-    Got(Head, usize),
+pub enum ValuesHeadField {
+    Got(ValuesHead, usize),
     Refused(u32),
 }
 
 pub enum ValuesField {
     Got(Values, usize),
     Refused(u32),
+}
+
+// Whether flags say that values are packed.
+pub fn is_packed(flags: u32) -> bool
+    ensures { λ r. ⌜ r ≡ isPacked flags ⌝ }
+{
+    if flags % 2 == 1 {
+        return true;
+    }
+    flags / 4 % 2 == 1
 }
 
 // A row of the table of forms below.
@@ -202,17 +214,17 @@ fn stored_by(c: Coding, old: Stored, form: Form) -> Stored
 }
 
 // What stands before the run.
-fn read_head(s: &[u8], c: Coding, old: Stored, n: usize, at: usize) -> HeadField
+fn read_head(s: &[u8], c: Coding, old: Stored, n: usize, at: usize) -> ValuesHeadField
     ensures { λ r. ⌜ saysHead r ≡ headField (now (s .entry)) c old n at ⌝ }
 {
     match read_form(s, c.version, at) {
-        FormField::Past => HeadField::Refused(2),
-        FormField::Unknown => HeadField::Refused(19),
+        FormField::Past => ValuesHeadField::Refused(2),
+        FormField::Unknown => ValuesHeadField::Refused(19),
         FormField::Got(form, p) => match read_inactives(s, form, n, p) {
-            InactivesField::Past => HeadField::Refused(2),
+            InactivesField::Past => ValuesHeadField::Refused(2),
             InactivesField::Got(inactives, q) => {
                 let stored = stored_by(c, old, form);
-                HeadField::Got(Head { stored, inactives }, q)
+                ValuesHeadField::Got(ValuesHead { stored, inactives }, q)
             }
         },
     }
@@ -264,8 +276,8 @@ pub fn read_counted(
     ensures { λ r. ⌜ saysValues r ≡ valuesField (now (s .entry)) c old n child value at ⌝ }
 {
     match read_head(s, c, old, n, at) {
-        HeadField::Refused(k) => ValuesField::Refused(k),
-        HeadField::Got(head, p) => {
+        ValuesHeadField::Refused(k) => ValuesField::Refused(k),
+        ValuesHeadField::Got(head, p) => {
             let stored = head.stored;
             let inactives = head.inactives;
             match read_run(s, c, stored, n, child, value, ones, p) {

@@ -1,20 +1,17 @@
 -- Laws of the definitions, by which the functions' proofs go.
-use mathlib.Core.Path.{_≡_, refl, sym, ap, _∙_}
-use mathlib.Core.List.{List, [], _∷_, _++_, append-assoc}
-use Prim.Native.Nat.{ℕ, suc, _+_, _≤_, _<_}
-use native.Mathlib.Numerals.{add-one}
+use mathlib.Core.Path.{_≡_, refl, ap, _∙_}
+use mathlib.Core.List.{List, [], _∷_}
+use Prim.Native.Nat.{ℕ}
 use native.Mathlib.Omega.{arith}
-use lib.ListN.{length, take, set}
-use lib.Seq.{take-all, take-suc-set}
 use Rattle.archive.specs.Answer.{Answer, gives, refuses}
 use Rattle.fields.proofs.Laws.{told}
-use Rattle.metadata.specs.declared.MetadataValue.{MetadataValue}
-use Rattle.grid.specs.Answers.{saysGridAnswer, saysFill, keptBy}
+use Rattle.grid.specs.Answers.{saysGridAnswer}
+use Rattle.leaves.specs.Answers.{saysFill, keptBy}
 use Rattle.grid.specs.declared.OpenedGrid.{OpenedGrid}
 use Rattle.grid.specs.declared.GridAnswer.{GridAnswer}
 use Rattle.grid.specs.declared.GridAnswer.the-variants.{Grid as GridIs, Refused as GridRefused}
-use Rattle.grid.specs.declared.FillAnswer.{FillAnswer}
-use Rattle.grid.specs.declared.FillAnswer.the-variants.{Filled as IsFilled, Refused as FillRefused}
+use Rattle.leaves.specs.declared.FillAnswer.{FillAnswer}
+use Rattle.leaves.specs.declared.FillAnswer.the-variants.{Filled as IsFilled, Refused as FillRefused}
 use Rattle.place.specs.declared.Place.{Place}
 use Rattle.records.specs.Slots.{Slots}
 use Rattle.walk.specs.Walk.{saysWalk, Promise}
@@ -22,7 +19,8 @@ use Rattle.walk.specs.declared.Walked.{Walked}
 use Rattle.walk.specs.declared.WalkAnswer.{WalkAnswer}
 use Rattle.walk.specs.declared.WalkAnswer.the-variants.{Walked as HasWalked, Refused as WalkRefused}
 use Rattle.words.specs.Words.{placeOf, wordsOf}
-use Rattle.vdb.specs.Vdb.{laid, entryWords, table, openedWords, OpenCall, WalkCall}
+use Rattle.outward.specs.Outward.{openedWords}
+use Rattle.vdb.specs.Vdb.{laid, OpenCall, WalkCall}
 
 -- a call's answer r, which says m, and of which it is known which answer v it is
 pub laid-by :
@@ -39,10 +37,6 @@ unfolding laid
 laid-stop words lent = refl
 
 pub ruleset answers = (laid-on, laid-stop)
-
--- an entry's words, once it is known which value it is
-pub entry-by : {v u : MetadataValue} {w : List ℕ} → v ≡ u → w ≡ entryWords u → w ≡ entryWords v
-entry-by e h = rw e h
 
 -- a walk call from the place p of these words, by its answer a
 module _ {s words : List ℕ} (counts : List ℕ) {before after : Slots} {p : Place} {a : WalkAnswer} (e : p ≡ placeOf words) (h : Promise s p before a after) where
@@ -79,21 +73,6 @@ module _ {s : List ℕ} {m : Answer OpenedGrid} (out place : List ℕ) {a : Grid
     left = laid-by saysGridAnswer _ _ h x (laid-on _ _ (λ i. (y i, z .0 i)));
     stands = λ v w. let u : g ≡ v = cc (ap saysGridAnswer x) in z .1 ∙ ap (λ (g : OpenedGrid). g .place) u;
   }
-
--- the 18 words behind the first five: one more is written, or all are
-module _ (f : ℕ → ℕ) (head out : List ℕ) (i : ℕ) where
-  pub table-more :
-      (v : ℕ) → i < 18 → length out ≡ 23 → take (5 + i) out ≡ head ++ table f i → v ≡ f i → take (5 + (i + 1)) (set out (5 + i) v) ≡ head ++ table f (i + 1)
-  unfolding table
-  table-more v l n e x =
-      let k : 5 + (i + 1) ≡ suc (5 + i) = omega arith in
-      let h : 5 + i < length out = omega arith in
-      rw (k, take-suc-set out (5 + i) v h, e, x, add-one i, append-assoc)
-
-  pub table-all : 18 ≤ i → i ≤ 18 → length out ≡ 23 → take (5 + i) out ≡ head ++ table f i → out ≡ head ++ table f 18
-  table-all l h n e =
-      let k : i ≡ 18 = omega arith in
-      sym (take-all 23 out (omega arith)) ∙ (rw k at e)
 
 -- a fill, by its answer a
 module _ {m : Answer (List ℕ)} (before after : List ℕ) {a : FillAnswer} (h : (saysFill a after ≡ m) × keptBy a before after) where

@@ -1,3 +1,3 @@
 mod Laws
-pub mod Doubles
 pub mod Calls
+pub mod Numbers

@@ -1,3 +1,2 @@
 pub mod Vdb
 pub mod Calls
-pub mod Inner

@@ -6,7 +6,7 @@ use Prim.Native.Nat.{ℕ, _+_, _-_, _≤_, _<_, min}
 use native.Mathlib.Omega.{arith}
 use lib.Dec.{eqb, lit≤}
 use lib.ListN.{length}
-use borrow.Author.Tests.{eq-eqb, ne-eqb, eqb-true}
+use borrow.Author.Tests.{ne-eqb, eqb-true, eqb-false}
 use Rattle.fields.specs.Parse.{when}
 use Rattle.half.specs.Inner.{isWidth}
 use Rattle.archive.specs.Answer.{Answer, gives, refuses}
@@ -16,7 +16,7 @@ use Rattle.place.specs.Inner.{Course, handOn, moved, Walks}
 use Rattle.place.proofs.Cut.{hand-most}
 use Rattle.place.specs.declared.Place.{Place}
 use Rattle.place.specs.declared.Stand.{Stand}
-use Rattle.walk.specs.Walk.{saysWalk, neededNext, Promise}
+use Rattle.walk.specs.Walk.{saysWalk, neededNext, LeftBehind, Promise}
 use Rattle.walk.specs.Inner.{isWide, wanted, courseFrom, found, stands, walkFrom, Does}
 use Rattle.walk.proofs.Past.{nothing-there}
 use Rattle.walk.proofs.Reached.{does-next, length-nil}
@@ -36,28 +36,24 @@ refuses-same e = cc
 least : (k left : ℕ) {n : ℕ} → n ≤ min k left → n ≤ k
 least k left h = omega (arith, h)
 
+fewest : (k left : ℕ) {n : ℕ} → n ≤ min k left → n ≤ left
+fewest k left h = omega (arith, h)
+
 no-more : (left : ℕ) → min 0 left ≡ 0
 no-more left = omega arith
 
 some-of : (k left : ℕ) → 0 < k → 0 < left → min k left ≡ 0 → ⊥
 some-of k left a b e = omega (arith, a, b, e)
 
--- a width is 2 or 4
-pub wide-width : (w : ℕ) → isWide w ≡ true → isWidth w
-wide-width w e = go (eqb w 2) (eqb w 4) refl refl e
-  where
-    go : (a b : Bool) → eqb w 2 ≡ a → eqb w 4 ≡ b → (a || b) ≡ true → isWidth w
-    go true b d f e = rw (eqb-true w 2 d) (lit≤ tt, lit≤ tt, refl)
-    go false true d f e = rw (eqb-true w 4 f) (lit≤ tt, lit≤ tt, refl)
-    go false false d f e = absurd (true≢false (sym e))
-
 -- the count that the code has is the one that is wanted
-pub walks-by : (s : List ℕ) (p : Place) (k : ℕ) {n : ℕ} {t t′ : Slots} {v : Stand} → n ≡ wanted p k → Walks (handOn s (p .coding) n (p .cursor) (p .inside)) t t′ v → Walks (courseFrom s p k) t t′ v
+pub walks-by :
+    (s : List ℕ) (p : Place) (k : ℕ) {n : ℕ} {t t′ : Slots} {v : Stand} → n ≡ wanted p k →
+    Walks (handOn s (p .start .coding) n (p .cursor) (p .inside)) t t′ v → Walks (courseFrom s p k) t t′ v
 walks-by s p k e f = rw (← e) f
 
 pub left-enough : (s : List ℕ) (p : Place) (k : ℕ) {t t′ : Slots} {v : Stand} → Walks (courseFrom s p k) t t′ v → v .filled ≤ p .left
 left-enough s p k f =
-    let l = hand-most s (p .coding) (wanted p k) (p .cursor) (p .inside) in
+    let l = hand-most s (p .start .coding) (wanted p k) (p .cursor) (p .inside) in
     omega (arith, f .filled, l)
 
 -- no more slots are used than each slice has
@@ -86,11 +82,11 @@ module _ (s : List ℕ) (p : Place) (t : Slots) where
   unfolding walkFrom when
   does-nothing e d = record { answer = rw (d, e); slots = rw e }
 
-  pub not-wide : (wanted p k ≡ 0 → ⊥) → isWide (p .coding .width) ≡ false → Does s p t (WalkRefused 22) t
+  pub not-wide : (wanted p k ≡ 0 → ⊥) → isWide (p .start .coding .width) ≡ false → Does s p t (WalkRefused 22) t
   unfolding walkFrom found when laid
   not-wide n e = record { answer = rw (ne-eqb _ 0 n, e); slots = rw (ne-eqb _ 0 n, e) }
 
-  module _ (some-wanted : wanted p k ≡ 0 → ⊥) (e : isWide (p .coding .width) ≡ true) {t′ : Slots} {v : Stand} (f : Walks (courseFrom s p k) t t′ v) where
+  module _ (some-wanted : wanted p k ≡ 0 → ⊥) (e : isWide (p .start .coding .width) ≡ true) {t′ : Slots} {v : Stand} (f : Walks (courseFrom s p k) t t′ v) where
     pub none-found : v .filled ≡ 0 → Does s p t (WalkRefused 22) t′
     unfolding walkFrom found when
     none-found z = record { answer = rw (ne-eqb _ 0 some-wanted, e, sym (f .filled) ∙ z); slots = rw (ne-eqb _ 0 some-wanted, e) (f .slots) }
@@ -110,7 +106,7 @@ module _ (s : List ℕ) (p : Place) (t : Slots) where
 -- records that are found are those of the walk's course
 found-some : (s : List ℕ) (p : Place) (k : ℕ) → eqb (length (found s p k)) 0 ≡ false → found s p k ≡ courseFrom s p k .records
 unfolding found when
-found-some s p k = go (isWide (p .coding .width))
+found-some s p k = go (isWide (p .start .coding .width))
   where
     go : (b : Bool) → eqb (length (when b (courseFrom s p k .records) [])) 0 ≡ false → when b (courseFrom s p k .records) [] ≡ courseFrom s p k .records
     go true e = refl
@@ -138,7 +134,7 @@ module _ {s : List ℕ} {p : Place} {t : Slots} {r : WalkAnswer} {t′ : Slots} 
       a = courseFrom s p (slotCount t)
 
       few : length (a .records) ≤ slotCount t
-      few = least (slotCount t) (p .left) (hand-most s (p .coding) (wanted p (slotCount t)) (p .cursor) (p .inside))
+      few = least (slotCount t) (p .left) (hand-most s (p .start .coding) (wanted p (slotCount t)) (p .cursor) (p .inside))
 
       go : (x y : Bool) → eqb (length rs) 0 ≡ y → gives w ≡ when x (gives (record { place = p; filled = 0; left = p .left })) (when y (refuses 22) (gives (stands p a))) →
           t′ ≡ when x t (laid t 0 rs) → (rs : List Record) × (length rs ≡ w .filled) × (w .filled ≤ slotCount t) × (t′ ≡ laid t 0 rs)
@@ -150,6 +146,31 @@ module _ {s : List ℕ} {p : Place} {t : Slots} {r : WalkAnswer} {t′ : Slots} 
           let z : w .filled ≡ length (a .records) = ap (λ (w : Walked). w .filled) (gives-same e) in
           (rs, ap length (found-some s p (slotCount t) f) ∙ sym z, rw z few, g)
 
+  does-left : (w : Walked) → saysWalk r ≡ gives w → LeftBehind p (slotCount t) w
+  unfolding walkFrom when
+  does-left w e = go (eqb (wanted p (slotCount t)) 0) (eqb (length rs) 0) refl refl (sym e ∙ d .answer)
+    where
+      a : Course
+      a = courseFrom s p (slotCount t)
+
+      few : length (a .records) ≤ p .left
+      few = fewest (slotCount t) (p .left) (hand-most s (p .start .coding) (wanted p (slotCount t)) (p .cursor) (p .inside))
+
+      go : (x y : Bool) → eqb (wanted p (slotCount t)) 0 ≡ x → eqb (length rs) 0 ≡ y →
+          gives w ≡ when x (gives (record { place = p; filled = 0; left = p .left })) (when y (refuses 22) (gives (stands p a))) →
+          LeftBehind p (slotCount t) w
+      go true y f h e = rw (gives-same e) record {
+        start = refl;
+        most = omega arith;
+        left = omega arith;
+        in-place = refl;
+        some = λ i j. absurd (some-of (slotCount t) (p .left) i j (eqb-true _ 0 f));
+      }
+      go false true f h e = absurd (refuses-gives (sym e))
+      go false false f h e =
+          let n : length (a .records) ≡ 0 → ⊥ = λ z. eqb-false _ 0 h (ap length (found-some s p (slotCount t) h) ∙ z) in
+          rw (gives-same e) record { start = refl; most = few; left = refl; in-place = refl; some = λ i j. omega (arith, n) }
+
   does-none : slotCount t ≡ 0 → saysWalk r ≡ gives (record { place = p; filled = 0; left = p .left })
   unfolding walkFrom when
   does-none e =
@@ -160,7 +181,7 @@ module _ {s : List ℕ} {p : Place} {t : Slots} {r : WalkAnswer} {t′ : Slots} 
   unfolding walkFrom found when
   does-past a b f =
       let z = nothing-there s p (slotCount t) f in
-      d .answer ∙ rw (ne-eqb (wanted p (slotCount t)) 0 (some-of (slotCount t) (p .left) a b), z) (go _ (isWide (p .coding .width)))
+      d .answer ∙ rw (ne-eqb (wanted p (slotCount t)) 0 (some-of (slotCount t) (p .left) a b), z) (go _ (isWide (p .start .coding .width)))
     where
       go : (y : Answer Walked) (b : Bool) → when (eqb (length {A = Record} (when b [] [])) 0) (refuses 22) y ≡ refuses 22
       go y true = refl
@@ -173,6 +194,7 @@ keeps s p t {r} {t′} d =
       reached = λ asked name g m e l f. does-next s g (grid-read s asked name e) m l t (subst (λ (q : Place). Does s q t r t′) f d);
       some-records = does-some d;
       refused = does-refuse d;
+      left-behind = does-left d;
       no-slots = does-none d;
       past-end = does-past d;
     }

@@ -20,7 +20,7 @@ use Rattle.cursor.specs.Inner.{Stop, Onward, after, childrenOf, rest4, rest5, r
 use Rattle.cursor.specs.declared.Cursor.{Cursor}
 use Rattle.cursor.specs.declared.Entered.{Entered}
 use Rattle.cursor.proofs.Laws.{entered-outside}
-use Rattle.place.specs.Inner.{course}
+use Rattle.place.specs.Inner.{course, listing}
 use Rattle.place.specs.declared.Place.{Place}
 use Rattle.walk.specs.Walk.{neededNext}
 use Rattle.walk.specs.Inner.{courseFrom}
@@ -50,18 +50,18 @@ module _ (s : List ℕ) (p : Place) (k : ℕ) (past : length s < neededNext p .s
   more = ltb (p .inside .from) (places (edgeOf (p .inside .level)))
 
   -- where it has none, no piece is to come
-  none-to-come : more ≡ false → toCome s (p .coding) (p .cursor) .items ≡ []
+  none-to-come : more ≡ false → toCome s (p .start .coding) (p .cursor) .items ≡ []
   unfolding neededNext toCome rest5 rest4 when
   none-to-come e = go (eqb (p .cursor .depth) 0) (eqb (p .cursor .depth) 1) refl refl
     where
-      go : (a b : Bool) → eqb (p .cursor .depth) 0 ≡ a → eqb (p .cursor .depth) 1 ≡ b → toCome s (p .coding) (p .cursor) .items ≡ []
+      go : (a b : Bool) → eqb (p .cursor .depth) 0 ≡ a → eqb (p .cursor .depth) 1 ≡ b → toCome s (p .start .coding) (p .cursor) .items ≡ []
       go true b d f = rw d (no-roots s _ _ _ _ (rw (e, d) at past))
       go false true d f = rw (d, f) (no-children s _ _ _ _ _ _ _ (rw (e, d, f) at past))
       go false false d f = rw (d, f) (no-children s _ _ _ _ _ _ _ (rw (e, d, f) at past))
 
   -- no record is handed out
   pub nothing-there : courseFrom s p k .records ≡ []
-  unfolding neededNext handPiece course when
+  unfolding neededNext handPiece course listing when
   nothing-there = go more refl
     where
       go : (t : Bool) → more ≡ t → courseFrom s p k .records ≡ []

@@ -3,42 +3,32 @@ use mathlib.Core.Path.{_≡_, refl, sym, ap, subst, _∙_}
 use mathlib.Core.List.{List, [], _∷_}
 use mathlib.Core.Bool.{Bool, true, false, _||_}
 use Prim.Native.Nat.{ℕ, _+_, _-_, _≤_, min}
-use native.Mathlib.Nat.{add-zero, sub-zero}
+use native.Mathlib.Nat.{add-zero}
 use native.Mathlib.Omega.{arith}
 use lib.Dec.{eqb}
 use lib.ListN.{length, take, drop, length-take, length-drop}
-use borrow.Author.Tests.{eqb-true, eqb-false, ne-eqb}
+use borrow.Author.Tests.{eqb-true, eqb-false}
 use Rattle.fields.specs.Parse.{when}
 use Rattle.half.specs.Inner.{isWidth}
 use Rattle.archive.specs.Answer.{gives, refuses}
-use Rattle.archive.specs.declared.Asked.{Asked}
 use Rattle.tree.specs.Active.{Record}
 use Rattle.records.specs.Slots.{Slots, slotCount, laid}
-use Rattle.cursor.specs.Inner.{betweenRoots}
 use Rattle.cursor.specs.declared.Cursor.{Cursor}
 use Rattle.records.specs.declared.Inside.{Inside}
 use Rattle.place.specs.Inner.{Course, join, handOn, nowhere, freshPlace, moved, placeFrom}
 use Rattle.place.specs.declared.Place.{Place}
 use Rattle.place.proofs.Places.{after-more, after-records}
-use Rattle.grid.specs.Grid.{Grid, grid, activeOf, placeAfter}
-use Rattle.grid.proofs.Coverage.{GridRead, grid-read}
+use Rattle.grid.specs.Grid.{Grid, activeOf, startOf, placeAfter}
+use Rattle.grid.proofs.Coverage.{GridRead}
 use Rattle.walk.specs.Walk.{saysWalk, nextRecords, walkedTo}
 use Rattle.walk.specs.Inner.{isWide, wanted, courseFrom, found, stands, walkFrom, Does}
 use Rattle.walk.specs.declared.WalkAnswer.{WalkAnswer}
 use Rattle.walk.proofs.Demand3.{take-there}
+use Rattle.walk.proofs.Wide.{wide-is}
 
 pub length-nil : {A : Type 0} (l : List A) → length l ≡ 0 → l ≡ []
 length-nil [] e = refl
 length-nil (a ∷ l) e = absurd (omega arith)
-
-wide-is : (w : ℕ) → isWidth w → isWide w ≡ true
-wide-is w h = go (eqb w 2) refl
-  where
-    go : (a : Bool) → eqb w 2 ≡ a → (a || eqb w 4) ≡ true
-    go true e = refl
-    go false e =
-        let d : w ≡ 4 = omega (arith, h .0, h .1, h .2, eqb-false w 2 e) in
-        rw d
 
 module _ (s : List ℕ) (g : Grid) (h : GridRead s g) (m : ℕ) (l : m ≤ length (activeOf s g)) where
   abbrev n : ℕ
@@ -46,17 +36,17 @@ module _ (s : List ℕ) (g : Grid) (h : GridRead s g) (m : ℕ) (l : m ≤ lengt
 
   -- where a walk stands after so many records, and what its place has
   abbrev after : ℕ → Course
-  after j = handOn s (g .coding) j (betweenRoots (g .tree .head .«root_count») (g .tree .head .«roots_pos») (g .block)) nowhere
+  after j = handOn s (g .coding) j (freshPlace (startOf s g) .cursor) nowhere
 
-  abbrev stood : ℕ → ℕ → Cursor → Inside → Place
-  stood i left x w = moved (freshPlace (g .coding) (g .tree .head .«roots_pos») (g .tree .head .«root_count») (g .block) n) left x w
+  abbrev stood : ℕ → Cursor → Inside → Place
+  stood = moved (freshPlace (startOf s g))
 
-  place-is : (i : ℕ) → placeAfter s g i ≡ stood i (n - i) (after i .cursor) (after i .inside)
+  place-is : (i : ℕ) → placeAfter s g i ≡ stood (n - i) (after i .cursor) (after i .inside)
   unfolding placeAfter placeFrom
   place-is i = refl
 
   abbrev here : Place
-  here = stood m (n - m) (after m .cursor) (after m .inside)
+  here = stood (n - m) (after m .cursor) (after m .inside)
 
   -- so many more
   abbrev next : ℕ → Course
@@ -64,15 +54,15 @@ module _ (s : List ℕ) (g : Grid) (h : GridRead s g) (m : ℕ) (l : m ≤ lengt
 
   next-records : (j : ℕ) → next j .records ≡ take j (drop m (activeOf s g))
   next-records j =
-      subst (λ (b : ℕ). (let a = handOn s (g .coding) m (betweenRoots (g .tree .head .«root_count») (g .tree .head .«roots_pos») b) nowhere in
-      handOn s (g .coding) j (a .cursor) (a .inside) .records ≡ take j (drop m (activeOf s g)))) (h .block) (after-records (h .parsed) (h .width) m j l)
+      subst (λ (x : Cursor). (let a = handOn s (g .coding) m x nowhere in handOn s (g .coding) j (a .cursor) (a .inside) .records ≡ take j (drop m (activeOf s g)))) (h .start)
+      (after-records (h .parsed) (h .width) m j l)
 
-  next-place : (j : ℕ) → stood m (n - m - j) (next j .cursor) (next j .inside) ≡ placeAfter s g (m + j)
+  next-place : (j : ℕ) → stood (n - m - j) (next j .cursor) (next j .inside) ≡ placeAfter s g (m + j)
   next-place j =
-      let e = subst (λ (b : ℕ). (let x = betweenRoots (g .tree .head .«root_count») (g .tree .head .«roots_pos») b in let a = handOn s (g .coding) m x nowhere in
-      handOn s (g .coding) (m + j) x nowhere ≡ join (a .records) (handOn s (g .coding) j (a .cursor) (a .inside)))) (h .block) (after-more (h .parsed) (h .width) m j l) in
+      let e = subst (λ (x : Cursor). (let a = handOn s (g .coding) m x nowhere in
+      handOn s (g .coding) (m + j) x nowhere ≡ join (a .records) (handOn s (g .coding) j (a .cursor) (a .inside)))) (h .start) (after-more (h .parsed) (h .width) m j l) in
       let d : n - m - j ≡ n - (m + j) = omega arith in
-      (λ i. stood m (d i) (sym e i .cursor) (sym e i .inside)) ∙ sym (place-is (m + j))
+      (λ i. stood (d i) (sym e i .cursor) (sym e i .inside)) ∙ sym (place-is (m + j))
 
   module _ (k : ℕ) where
     abbrev rs : List Record
@@ -103,7 +93,7 @@ module _ (s : List ℕ) (g : Grid) (h : GridRead s g) (m : ℕ) (l : m ≤ lengt
             let z = ap (λ (x : ℕ). eqb x 0) (ap length are-found ∙ sym many) ∙ e in
             let d : n - m - length rs ≡ n - (m + length rs) = omega arith in
             rw z (ap gives
-            ((λ i. record { place = stood m (n - m - q i) (next (many i) .cursor) (next (many i) .inside); filled = q i; left = n - m - q i })
+            ((λ i. record { place = stood (n - m - q i) (next (many i) .cursor) (next (many i) .inside); filled = q i; left = n - m - q i })
             ∙ (λ i. record { place = next-place (length rs) i; filled = length rs; left = d i })))
 
     fills : (t : Slots) → when (eqb (wanted here k) 0) t (laid t 0 (found s here k)) ≡ laid t 0 rs

@@ -26,11 +26,11 @@ wanted p k = min k (p .left)
 
 -- where the walk goes
 abbrev pub courseFrom : List ℕ → Place → ℕ → Course
-courseFrom s p k = handOn s (p .coding) (wanted p k) (p .cursor) (p .inside)
+courseFrom s p k = handOn s (p .start .coding) (wanted p k) (p .cursor) (p .inside)
 
 -- the records handed out, and the answer with them
 unfoldable pub found : List ℕ → Place → ℕ → List Record
-found s p k = when (isWide (p .coding .width)) (courseFrom s p k .records) []
+found s p k = when (isWide (p .start .coding .width)) (courseFrom s p k .records) []
 
 abbrev pub stands : Place → Course → Walked
 stands p a = record { place = moved p (p .left - length (a .records)) (a .cursor) (a .inside); filled = length (a .records); left = p .left - length (a .records) }

@@ -42,6 +42,16 @@ neededNext p =
     (when (eqb (p .cursor .depth) 1) (record { start = p .cursor .node5 .pos; bytes = 4096 })
     (record { start = p .cursor .node4 .pos; bytes = 512 })))
 
+-- An answer w to a call from the place p with k slots: the place handed back starts from the same, so it tells the same grid; no more records than were
+-- left; what is left in the answer, and in the place handed back, is what was left less these; and where slots are lent and records are left, at least
+-- one is handed out.
+pub record LeftBehind (p : Place) (k : ℕ) (w : Walked) : Type 0 where
+  pub start : w .place .start ≡ p .start
+  pub most : w .filled ≤ p .left
+  pub left : w .left ≡ p .left - w .filled
+  pub in-place : w .place .left ≡ w .left
+  pub some : 0 < k → 0 < p .left → 0 < w .filled
+
 -- A call over the bytes s from the place p, with the slots before and after it, and its answer.
 pub record Promise (s : List ℕ) (p : Place) (before : Slots) (r : WalkAnswer) (after : Slots) : Type 0 where
   -- From a place of a grid over these bytes, the place after m of its records: the next records, as many as there are slots, stand in these from the
@@ -53,6 +63,8 @@ pub record Promise (s : List ℕ) (p : Place) (before : Slots) (r : WalkAnswer) 
   pub some-records :
       (w : Walked) → saysWalk r ≡ gives w → (rs : List Record) × (length rs ≡ w .filled) × (w .filled ≤ slotCount before) × (after ≡ laid before 0 rs)
   pub refused : (k : ℕ) → saysWalk r ≡ refuses k → (k ≡ 22) × (after ≡ before)
+  -- What is left behind these records, also from any place.
+  pub left-behind : (w : Walked) → saysWalk r ≡ gives w → LeftBehind p (slotCount before) w
   -- Without slots nothing changes.
   pub no-slots : slotCount before ≡ 0 → saysWalk r ≡ gives (record { place = p; filled = 0; left = p .left })
   -- Where slots are lent, records are left, and the field that is needed next lies past the file's end, it is 22.

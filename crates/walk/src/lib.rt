@@ -1,9 +1,8 @@
 // Document 01, section 7: the walk call.
 ghost use mathlib.Core.Path.{_≡_};
 ghost use Prim.Native.Nat.{min};
-ghost use Rattle.records.specs.Slots.{slotsOf, slotCount};
+ghost use Rattle.records.specs.Slots.{slotsOf};
 ghost use Rattle.walk.specs.Walk.{Promise};
-ghost use Rattle.walk.specs.Inner.{isWide};
 use place::Place;
 
 // The walk's next place, how many slots are filled, and how many records are left.
@@ -38,15 +37,6 @@ fn record_count(x: usize, y: usize, z: usize, level: usize, value: usize, left: 
     slots
 }
 
-fn is_wide(width: usize) -> bool
-    ensures { λ r. ⌜ r ≡ isWide width ⌝ }
-{
-    if width == 2 {
-        return true;
-    }
-    width == 4
-}
-
 // Fills a row of record slots from its start with the records that follow a place: as many as the shortest slice has slots, and no more than are left. A
 // place that no call over these bytes gave gets records of this file or 22.
 pub fn walk(
@@ -69,8 +59,9 @@ pub fn walk(
         };
         return WalkAnswer::Walked(stays);
     }
-    let coding = p.coding;
-    if !is_wide(coding.width) {
+    let start = p.start;
+    let coding = start.coding;
+    if !place::is_wide(coding.width) {
         return WalkAnswer::Refused(22);
     }
     let cursor = p.cursor;
@@ -79,7 +70,7 @@ pub fn walk(
     if at.filled == 0 {
         return WalkAnswer::Refused(22);
     }
-    let next = p.step(at);
+    let next = p.moved_to(at);
     let walked = Walked {
         place: next,
         filled: at.filled,

@@ -10,17 +10,33 @@ fn is_past(c: Called) -> bool {
     (c.refusal == 22) & c.kept
 }
 
-fn is_free(c: Called, k: u64) -> bool {
+// The place handed back starts from the same, and has the number left that is told: so many fewer as were handed out.
+fn goes_on(p: Place, c: Called) -> bool {
+    let next = c.place;
+    let from = p.start;
+    let start = next.start;
+    (std::num::wrapping_sub_u64(p.left, c.filled) == c.left)
+        & (next.left == c.left)
+        & words::same_start(start, from)
+}
+
+// No more records than there are slots and than are left, and one at least where there are some of both.
+fn is_some(left: u64, c: Called, slots: u64) -> bool {
+    let any = (slots == 0) | (left == 0) | (c.filled != 0);
+    any & (c.filled <= slots) & (c.filled <= left)
+}
+
+fn is_free(p: Place, c: Called, k: u64) -> bool {
     if c.refusal == 0 {
-        return (c.filled <= lend::slots(k) as u64) & c.kept;
+        return is_some(p.left, c, lend::slots(k) as u64) & goes_on(p, c) & c.kept;
     }
     is_past(c)
 }
 
-fn is_right(command: u8, c: Called, k: u64) -> bool {
+fn is_right(command: u8, p: Place, c: Called, k: u64) -> bool {
     match command {
         b'P' => is_past(c),
-        _ => is_free(c, k),
+        _ => is_free(p, c, k),
     }
 }
 
@@ -28,7 +44,7 @@ fn tried(command: u8, s: &[u8], p: Place, k: u64, turn: usize) -> bool {
     let c = lend::call(s, p, k, turn, false, 0);
     let next = c.place;
     let d = lend::call(s, next, k, turn, false, 0);
-    is_right(command, c, k) & is_right(command, d, k)
+    is_right(command, p, c, k) & is_right(command, next, d, k)
 }
 
 // The first bytes of a file.

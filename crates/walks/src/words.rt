@@ -1,13 +1,14 @@
-// A walk's place with one of its words set. Its words are numbered from 0: five of the place itself, three of its coding, fourteen of its cursor, ten
-// of where it stands in a piece.
+// A walk's place with one of its words set. Its words are numbered from 0: six of what it started from, the number left, four of its coding, fourteen of
+// its cursor, ten of where it stands in a piece.
 use coordinates::GlobalCoord;
 use cursor::Cursor;
 use cursor::Entered;
 use place::Place;
+use place::Start;
 use records::Inside;
 use values::Coding;
 
-pub const COUNT: usize = 32;
+pub const COUNT: usize = 35;
 
 fn low(v: u64) -> u32 {
     (v % 4294967296) as u32
@@ -32,6 +33,7 @@ fn coding(mut c: Coding, w: u64, v: u64) -> Coding {
         0 => c.version = low(v),
         1 => c.flags = low(v),
         2 => c.width = v as usize,
+        3 => c.background = low(v),
         _ => {}
     }
     c
@@ -83,29 +85,56 @@ fn inside(mut i: Inside, w: u64, v: u64) -> Inside {
     i
 }
 
-fn own(mut p: Place, w: u64, v: u64) -> Place {
+fn start(mut t: Start, w: u64, v: u64) -> Start {
     match w {
-        0 => p.roots_pos = v as usize,
-        1 => p.root_count = low(v),
-        2 => p.block_pos = v as usize,
-        3 => p.length = v,
-        4 => p.left = v,
+        0 => t.tiles_pos = v as usize,
+        1 => t.tile_count = low(v),
+        2 => t.roots_pos = v as usize,
+        3 => t.root_count = low(v),
+        4 => t.block_pos = v as usize,
+        5 => t.length = v,
         _ => {}
     }
-    p
+    let c = t.coding;
+    let set = coding(c, less(w, 7), v);
+    t.coding = set;
+    t
+}
+
+fn same_coding(a: Coding, b: Coding) -> bool {
+    (a.version == b.version)
+        & (a.flags == b.flags)
+        & (a.width == b.width)
+        & (a.background == b.background)
+}
+
+// Whether two walks start from the same.
+pub fn same_start(a: Start, b: Start) -> bool {
+    let c = a.coding;
+    let d = b.coding;
+    (a.tiles_pos == b.tiles_pos)
+        & (a.tile_count == b.tile_count)
+        & (a.roots_pos == b.roots_pos)
+        & (a.root_count == b.root_count)
+        & (a.block_pos == b.block_pos)
+        & (a.length == b.length)
+        & same_coding(c, d)
 }
 
 // The place with v as its word w.
 pub fn with(p: Place, w: u64, v: u64) -> Place {
-    let mut q = own(p, w, v);
-    let c = q.coding;
-    let set = coding(c, less(w, 5), v);
-    q.coding = set;
+    let mut q = p;
+    if w == 6 {
+        q.left = v;
+    }
+    let t = q.start;
+    let set = start(t, w, v);
+    q.start = set;
     let at = q.cursor;
-    let moved = cursor(at, less(w, 8), v);
+    let moved = cursor(at, less(w, 11), v);
     q.cursor = moved;
     let i = q.inside;
-    let stands = inside(i, less(w, 22), v);
+    let stands = inside(i, less(w, 25), v);
     q.inside = stands;
     q
 }

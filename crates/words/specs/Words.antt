@@ -1,4 +1,4 @@
--- Section 7: a walk's place as 32 words of 64 bits.
+-- Section 7: a walk's place as 35 words of 64 bits.
 use Prim.Native.Nat.{ℕ, _+_, _-_, _%_}
 use mathlib.Core.List.{List, [], _∷_, _++_}
 use lib.IntN.{ℤ, pos, negsuc}
@@ -8,6 +8,7 @@ use Rattle.coordinates.specs.declared.GlobalCoord.{GlobalCoord}
 use Rattle.cursor.specs.declared.Cursor.{Cursor}
 use Rattle.cursor.specs.declared.Entered.{Entered}
 use Rattle.records.specs.declared.Inside.{Inside}
+use Rattle.place.specs.declared.Start.{Start}
 use Rattle.place.specs.declared.Place.{Place}
 
 -- a signed number's pattern of 64 bits in two's complement
@@ -15,7 +16,7 @@ abbrev pub pattern : ℤ → ℕ
 pattern (pos n) = n
 pattern (negsuc n) = 0xffff_ffff_ffff_ffff - n
 
--- The place that 32 words stand for. A position or a length is a whole word, a smaller number the low 32 bits of one, a coordinate these in two's
+-- The place that 35 words stand for. A position or a length is a whole word, a smaller number the low 32 bits of one, a coordinate these in two's
 -- complement.
 abbrev pub low32 : ℕ → ℕ
 low32 w = w % 0x1_0000_0000
@@ -28,6 +29,18 @@ enteredOf x y z at next = record { origin = coordsOf x y z; pos = at; next = low
 
 abbrev pub at : List ℕ → ℕ → ℕ
 at w i = getD w i 0
+
+-- what a walk starts from, by the first ten words
+unfoldable pub startOf : List ℕ → Start
+startOf w = record {
+  coding = record { version = low32 (at w 0); flags = low32 (at w 1); width = at w 2; background = low32 (at w 3) };
+  «tiles_pos» = at w 4;
+  «tile_count» = low32 (at w 5);
+  «roots_pos» = at w 6;
+  «root_count» = low32 (at w 7);
+  «block_pos» = at w 8;
+  length = at w 9;
+}
 
 -- the cursor from word k on, and the place in a piece
 unfoldable pub cursorOf : List ℕ → ℕ → Cursor
@@ -53,18 +66,14 @@ insideOf w k = record {
 }
 
 unfoldable pub placeOf : List ℕ → Place
-placeOf w = record {
-  coding = record { version = low32 (at w 0); flags = low32 (at w 1); width = at w 2 };
-  «roots_pos» = at w 3;
-  «root_count» = low32 (at w 4);
-  «block_pos» = at w 5;
-  length = at w 6;
-  left = at w 7;
-  cursor = cursorOf w 8;
-  inside = insideOf w 22;
-}
+placeOf w = record { start = startOf w; left = at w 10; cursor = cursorOf w 11; inside = insideOf w 25 }
 
 -- A place's words, in the same order.
+abbrev pub startWords : Start → List ℕ
+startWords t =
+    t .coding .version ∷ t .coding .flags ∷ t .coding .width ∷ t .coding .background ∷ t .«tiles_pos» ∷ t .«tile_count» ∷ t .«roots_pos» ∷ t .«root_count»
+    ∷ t .«block_pos» ∷ t .length ∷ []
+
 abbrev pub coordWords : GlobalCoord → List ℕ
 coordWords o = pattern (o .0) ∷ pattern (o .1) ∷ pattern (o .2) ∷ []
 
@@ -78,6 +87,4 @@ abbrev pub insideWords : Inside → List ℕ
 insideWords w = w .level ∷ coordWords (w .origin) ++ w .child ∷ w .value ∷ w .stored ∷ w .start ∷ w .from ∷ w .number ∷ []
 
 unfoldable pub wordsOf : Place → List ℕ
-wordsOf p =
-    p .coding .version ∷ p .coding .flags ∷ p .coding .width ∷ p .«roots_pos» ∷ p .«root_count» ∷ p .«block_pos» ∷ p .length ∷ p .left
-    ∷ cursorWords (p .cursor) ++ insideWords (p .inside)
+wordsOf p = startWords (p .start) ++ p .left ∷ cursorWords (p .cursor) ++ insideWords (p .inside)

@@ -1,12 +1,13 @@
-// A walk's place as 32 words of 64 bits, for a caller that keeps it as plain numbers: in another language, or in a file. Any 32 words are some place:
+// A walk's place as 35 words of 64 bits, for a caller that keeps it as plain numbers: in another language, or in a file. Any 35 words are some place:
 // a word of a smaller field counts by its low 32 bits. What a place is turned into is turned back into the same place.
 ghost use mathlib.Core.Path.{_≡_};
 ghost use Rattle.fields.specs.Le.{signed};
-ghost use Rattle.words.specs.Words.{pattern, low32, at, coordsOf, enteredOf, cursorOf, insideOf, placeOf, coordWords, enteredWords, cursorWords, insideWords, wordsOf};
+ghost use Rattle.words.specs.Words.{pattern, low32, at, startOf, coordsOf, enteredOf, cursorOf, insideOf, placeOf, startWords, coordWords, enteredWords, cursorWords, insideWords, wordsOf};
 use coordinates::GlobalCoord;
 use cursor::Cursor;
 use cursor::Entered;
 use place::Place;
+use place::Start;
 use records::Inside;
 use values::Coding;
 
@@ -49,55 +50,67 @@ fn entered_of(x: u64, y: u64, z: u64, pos: u64, next: u64) -> Entered
     }
 }
 
-fn cursor_of(w: [u64; 32]) -> Cursor
-    ensures { λ r. ⌜ r ≡ cursorOf w 8 ⌝ }
+fn cursor_of(w: [u64; 35]) -> Cursor
+    ensures { λ r. ⌜ r ≡ cursorOf w 11 ⌝ }
 {
-    let node5 = entered_of(w[10], w[11], w[12], w[13], w[14]);
-    let node4 = entered_of(w[15], w[16], w[17], w[18], w[19]);
+    let node5 = entered_of(w[13], w[14], w[15], w[16], w[17]);
+    let node4 = entered_of(w[18], w[19], w[20], w[21], w[22]);
     Cursor {
-        depth: low(w[8]),
-        roots_left: low(w[9]),
+        depth: low(w[11]),
+        roots_left: low(w[12]),
         node5,
         node4,
-        topology_pos: w[20] as usize,
-        block_pos: w[21] as usize,
+        topology_pos: w[23] as usize,
+        block_pos: w[24] as usize,
     }
 }
 
-fn inside_of(w: [u64; 32]) -> Inside
-    ensures { λ r. ⌜ r ≡ insideOf w 22 ⌝ }
+fn inside_of(w: [u64; 35]) -> Inside
+    ensures { λ r. ⌜ r ≡ insideOf w 25 ⌝ }
 {
-    let origin = coords_of(w[23], w[24], w[25]);
+    let origin = coords_of(w[26], w[27], w[28]);
     Inside {
-        level: low(w[22]),
+        level: low(w[25]),
         origin,
-        child: w[26] as usize,
-        value: w[27] as usize,
-        stored: low(w[28]),
-        start: w[29] as usize,
-        from: low(w[30]),
-        number: w[31] as usize,
+        child: w[29] as usize,
+        value: w[30] as usize,
+        stored: low(w[31]),
+        start: w[32] as usize,
+        from: low(w[33]),
+        number: w[34] as usize,
     }
 }
 
-// The place that these words stand for.
-pub fn place_of(w: [u64; 32]) -> Place
-    ensures { λ r. ⌜ r ≡ placeOf w ⌝ }
+fn start_of(w: [u64; 35]) -> Start
+    ensures { λ r. ⌜ r ≡ startOf w ⌝ }
 {
     let coding = Coding {
         version: low(w[0]),
         flags: low(w[1]),
         width: w[2] as usize,
+        background: low(w[3]),
     };
+    Start {
+        coding,
+        tiles_pos: w[4] as usize,
+        tile_count: low(w[5]),
+        roots_pos: w[6] as usize,
+        root_count: low(w[7]),
+        block_pos: w[8] as usize,
+        length: w[9],
+    }
+}
+
+// The place that these words stand for.
+pub fn place_of(w: [u64; 35]) -> Place
+    ensures { λ r. ⌜ r ≡ placeOf w ⌝ }
+{
+    let start = start_of(w);
     let cursor = cursor_of(w);
     let inside = inside_of(w);
     Place {
-        coding,
-        roots_pos: w[3] as usize,
-        root_count: low(w[4]),
-        block_pos: w[5] as usize,
-        length: w[6],
-        left: w[7],
+        start,
+        left: w[10],
         cursor,
         inside,
     }
@@ -117,7 +130,25 @@ pub fn coord_word(x: i32) -> u64
     pattern_of(x as i64)
 }
 
-// The words of a coordinate, a node, a cursor and a place in a piece, from each of which it comes back.
+// The words of what a walk starts from, of a coordinate, a node, a cursor and a place in a piece, from each of which it comes back.
+fn start_words(t: Start) -> [u64; 10]
+    ensures { λ r. ⌜ (r ≡ startWords t) × (startOf r ≡ t) ⌝ }
+{
+    let c = t.coding;
+    [
+        word(c.version),
+        word(c.flags),
+        c.width as u64,
+        word(c.background),
+        t.tiles_pos as u64,
+        word(t.tile_count),
+        t.roots_pos as u64,
+        word(t.root_count),
+        t.block_pos as u64,
+        t.length,
+    ]
+}
+
 fn coord_words(o: GlobalCoord) -> [u64; 3]
     ensures { λ r. ⌜ (r ≡ coordWords o) × (coordsOf (at r 0) (at r 1) (at r 2) ≡ o) ⌝ }
 {
@@ -177,22 +208,26 @@ fn inside_words(w: Inside) -> [u64; 10]
 }
 
 // A place's words, which stand for it.
-pub fn words_of(p: Place) -> [u64; 32]
+pub fn words_of(p: Place) -> [u64; 35]
     ensures { λ r. ⌜ (r ≡ wordsOf p) × (placeOf r ≡ p) ⌝ }
 {
-    let coding = p.coding;
+    let start = p.start;
     let cursor = p.cursor;
     let inside = p.inside;
+    let t = start_words(start);
     let c = cursor_words(cursor);
     let w = inside_words(inside);
     [
-        word(coding.version),
-        word(coding.flags),
-        coding.width as u64,
-        p.roots_pos as u64,
-        word(p.root_count),
-        p.block_pos as u64,
-        p.length,
+        t[0],
+        t[1],
+        t[2],
+        t[3],
+        t[4],
+        t[5],
+        t[6],
+        t[7],
+        t[8],
+        t[9],
         p.left,
         c[0],
         c[1],

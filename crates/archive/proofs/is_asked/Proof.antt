@@ -1,3 +1,4 @@
+-- The three questions are the three cases of the definition.
 use borrow.Author.Needs.{needs}
 use Rattle.archive.proofs.Laws.{asked-is}
 use Rattle.archive.specs.Archive.{isAsked}

@@ -1,3 +1,4 @@
+-- The test chooses between the descriptor and what was found before it.
 use borrow.Author.Needs.{needs}
 use Rattle.fields.proofs.Steps.{steps}
 use Rattle.archive.proofs.newer.Statement.{statement}

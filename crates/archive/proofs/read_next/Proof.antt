@@ -1,3 +1,4 @@
+-- The descriptor is read first, and then check 10 looks for its name among the earlier ones.
 use borrow.Author.Needs.{needs}
 use Rattle.fields.proofs.Steps.{then-by, steps}
 use Rattle.archive.proofs.Laws.{check-repeated, check-new}

@@ -1,3 +1,4 @@
+-- Each way out is one law of the definition: the mask, the next place, the origin, in the order of the tests.
 use borrow.Author.Needs.{needs}
 use native.Mathlib.Omega.{arith}
 use Rattle.cursor.proofs.Laws.{entered-outside, entered-past, entered-aligned}

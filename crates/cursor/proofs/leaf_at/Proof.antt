@@ -1,3 +1,4 @@
+-- Each way out is one law of a leaf: its mask is not whole, its block is refused, or it is the next piece.
 use borrow.Author.Needs.{needs}
 use lib.Dec.{lit≤}
 use mathlib.Core.Path.{refl}

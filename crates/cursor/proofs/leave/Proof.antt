@@ -1,3 +1,4 @@
+-- The node's header is refused, or it gives the piece, behind which comes what the cursor handed over says.
 use borrow.Author.Needs.{needs}
 use mathlib.Core.Path.{refl}
 use Rattle.fields.proofs.Laws.{told}

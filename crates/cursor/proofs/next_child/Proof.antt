@@ -1,3 +1,4 @@
+-- Words that are a node's have their mask in the file, which is what the search for the next one needs.
 use borrow.Author.Needs.{needs}
 use borrow.Author.Tests.{not-true, not-false}
 use mathlib.Core.Option.{some}

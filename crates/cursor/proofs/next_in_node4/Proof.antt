@@ -1,3 +1,4 @@
+-- The words are no node's, a leaf is next, or none is left and the cursor behind the 4-node stands in its 5-node.
 use borrow.Author.Needs.{needs}
 use mathlib.Core.Path.{ap, _∙_}
 use Rattle.fields.proofs.Laws.{told}

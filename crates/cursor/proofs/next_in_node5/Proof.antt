@@ -1,3 +1,4 @@
+-- The words are no node's, a 4-node is next, or none is left and the cursor behind the 5-node stands between roots.
 use borrow.Author.Needs.{needs}
 use mathlib.Core.Path.{_∙_}
 use Rattle.fields.proofs.Laws.{told}

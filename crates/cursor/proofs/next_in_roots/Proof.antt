@@ -1,3 +1,4 @@
+-- Each way out is one law of the roots that are left: none, an origin that is not whole, a header that is refused, a root.
 use borrow.Author.Needs.{needs}
 use mathlib.Core.Path.{_∙_}
 use native.Mathlib.Omega.{arith}

@@ -1,3 +1,4 @@
+-- What is to come is defined by the same two tests of the depth.
 use borrow.Author.Needs.{needs}
 use borrow.Author.Tests.{eq-eqb, ne-eqb}
 use mathlib.Core.Path.{sym}

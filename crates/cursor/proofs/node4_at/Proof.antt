@@ -1,3 +1,4 @@
+-- The 4-node's header is refused, or what comes from its first place on is the answer.
 use borrow.Author.Needs.{needs}
 use mathlib.Core.Path.{_∙_}
 use Rattle.fields.proofs.Laws.{told}

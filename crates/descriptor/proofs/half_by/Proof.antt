@@ -1,3 +1,4 @@
+-- Each kind of value is one case of the definition.
 use borrow.Author.Needs.{needs}
 use Rattle.descriptor.specs.Descriptor.{halfBy}
 use Rattle.descriptor.proofs.half_by.Statement.{statement}

@@ -1,3 +1,4 @@
+-- There is no entry, or the entry's value tells.
 use borrow.Author.Needs.{needs}
 use Rattle.descriptor.specs.Descriptor.{halfEntry}
 use Rattle.descriptor.proofs.half_of.Statement.{statement}

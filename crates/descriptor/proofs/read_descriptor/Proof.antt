@@ -1,3 +1,4 @@
+-- Names, positions, flags and metadata, one after the other; each way out is the definition up to the field that fails.
 use borrow.Author.Needs.{needs}
 use Rattle.metadata.specs.Inner.{saysMetadata}
 use Rattle.fields.proofs.Steps.{then-by, steps}
@@ -16,9 +17,9 @@ read-descriptor-spec =
     (λ c κs. search needs) (λ c. search needs) (λ c. search needs)
     (λ c κs. search needs) (λ c. search needs) (λ c. search needs)
     (λ c κs. search needs) (λ c. search needs) (λ c. search needs)
-    (λ c κs. search needs)
+    (λ c κs. search needs) (λ c κs. search needs) (λ c κs. search needs)
     (λ c. search (steps, then-by saysNames))
     (λ c. search (steps, then-by saysNames, then-by saysPositions))
     (λ c. search (steps, then-by saysNames, then-by saysPositions, then-by saysNumber) depth 7)
     (λ c. search (steps, then-by saysNames, then-by saysPositions, then-by saysNumber, then-by saysMetadata) depth 9)
-    (λ c. rw (c .half-of .ensures) (search (steps, then-by saysNames, then-by saysPositions, then-by saysNumber, then-by saysMetadata) depth 9)))
+    (λ c. rw (c .half-of .ensures, c .before .tree-kind .ensures, c .before .before .bytes-of .ensures) (search (steps, then-by saysNames, then-by saysPositions, then-by saysNumber, then-by saysMetadata) depth 9)))

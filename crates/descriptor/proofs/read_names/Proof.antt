@@ -1,3 +1,4 @@
+-- Three strings, one after the other; the first that is not whole ends the reading.
 use borrow.Author.Needs.{needs}
 use Rattle.fields.specs.Inner.{saysSpan}
 use Rattle.fields.proofs.Steps.{then-by, steps}

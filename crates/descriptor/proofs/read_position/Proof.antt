@@ -1,3 +1,4 @@
+-- The number is read, and then check 9 compares it with the file's length.
 use borrow.Author.Needs.{needs}
 use Rattle.fields.specs.Inner.{saysU64}
 use Rattle.fields.proofs.Steps.{then-by, steps}

@@ -1,3 +1,4 @@
+-- Three positions, one after the other; the first that is refused ends the reading.
 use borrow.Author.Needs.{needs}
 use Rattle.fields.proofs.Steps.{then-by, steps}
 use Rattle.descriptor.specs.Descriptor.{positionsField}

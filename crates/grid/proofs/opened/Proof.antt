@@ -1,3 +1,4 @@
+-- The place is the fresh one of the content's start.
 use borrow.Author.Needs.{needs}
 use Rattle.grid.proofs.opened.Statement.{statement}
 use Rattle.grid.proofs.opened.Tie as tie

@@ -1,3 +1,4 @@
+-- Checks 12, 13 and 6 in their order, and then the content.
 use borrow.Author.Needs.{needs}
 use borrow.Author.Tests.{eq-eqb, ne-eqb, not-true, not-false}
 use mathlib.Core.Bool.{not}
@@ -5,47 +6,41 @@ use mathlib.Core.Path.{sym, ap, _∙_}
 use Rattle.fields.proofs.Laws.{then-fails, check-passes, check-fails}
 use Rattle.archive.specs.Answer.{answer}
 use Rattle.archive.proofs.Laws.{answer-fails}
-use Rattle.values.specs.declared.Coding.{Coding}
-use Rattle.grid.specs.Grid.{isFloatTree, gridField}
-use Rattle.grid.specs.Inner.{passedField, lookField}
-use Rattle.grid.proofs.Laws.{grid-looked}
+use Rattle.grid.specs.Grid.{gridField}
+use Rattle.grid.specs.Inner.{readGrid}
+use Rattle.grid.proofs.Laws.{grid-parts}
 use Rattle.grid.proofs.read_grid.Statement.{statement}
 use Rattle.grid.proofs.read_grid.Tie as tie
 
 returns : tie.Need-returns
-unfolding lookField gridField
-returns c =
-    answer-fails (then-fails _ (check-fails _ (sym (not-true _ (c .if1 .taken)) ∙ c .before .is-float-tree .ensures ∙ ap isFloatTree (c .before .before .bytes-of .ensures))))
+unfolding readGrid gridField
+returns c = answer-fails (then-fails _ (check-fails _ (sym (not-true _ (c .if1 .taken)) ∙ c .before .is-float-tree .ensures)))
 
 returns-2 : tie.Need-returns-2
-unfolding lookField gridField
+unfolding readGrid gridField
 returns-2 c =
     let t = c .before .before in
-    let a = sym (not-false _ (t .if1 .left)) ∙ t .before .is-float-tree .ensures ∙ ap isFloatTree (t .before .before .bytes-of .ensures) in
+    let a = sym (not-false _ (t .if1 .left)) ∙ t .before .is-float-tree .ensures in
     answer-fails (then-fails _ (check-passes _ a (check-fails _ (sym (ne-eqb _ _ (c .if2 .taken))))))
 
 returns-3 : tie.Need-returns-3
-unfolding lookField gridField
+unfolding readGrid gridField
 returns-3 c =
     let t = c .before .before .before .before in
-    let a = sym (not-false _ (t .if1 .left)) ∙ t .before .is-float-tree .ensures ∙ ap isFloatTree (t .before .before .bytes-of .ensures) in
+    let a = sym (not-false _ (t .if1 .left)) ∙ t .before .is-float-tree .ensures in
     let b = sym (eq-eqb _ _ (c .before .before .if2 .left)) in
     answer-fails (then-fails _ (check-passes _ a (check-passes _ b (check-fails _ (ap not (sym (c .if3 .taken) ∙ c .before .is-packed .ensures))))))
 
 returns-4 : tie.Need-returns-4
 returns-4 c =
-    let p = c .before .before in
+    let p = c .before in
     let t = p .before .before .before .before in
-    let s = t .before .before .before .before .before .before in
-    let a = sym (not-false _ (t .if1 .left)) ∙ t .before .is-float-tree .ensures ∙ ap isFloatTree (t .before .before .bytes-of .ensures) in
+    let a = sym (not-false _ (t .if1 .left)) ∙ t .before .is-float-tree .ensures in
     let b = sym (eq-eqb _ _ (p .before .before .if2 .left)) in
     let e = ap not (sym (p .if3 .left) ∙ p .before .is-packed .ensures) in
-    c .read-content .ensures
-    ∙ ap (λ (k : Coding). answer (passedField (s .args .s .now) k (s .args .d) (s .args .wanted))) (c .before .coding-of .ensures .0)
-    ∙ ap answer (grid-looked _ _ _ _ a b e)
+    c .read-content .ensures ∙ ap answer (grid-parts _ _ _ a b e)
 
 pub read-grid-spec : {M : Type 1} → statement M
 read-grid-spec =
     tie.close
-    (tie.spec (λ c κs. search needs) (λ c κs. search needs) returns returns-2 (λ c κs. search needs) returns-3 (λ c κs. search needs)
-    (λ c κs. (c .before .before .before .before .before .before .before .before .before .before .before .pre, c .coding-of .ensures .1)) returns-4)
+    (tie.spec (λ c κs. search needs) returns returns-2 (λ c κs. search needs) returns-3 (λ c κs. search needs) returns-4)

@@ -1,3 +1,4 @@
+-- The width is 2 where the entry says true, and 4 where it says false or is not there; both are widths.
 use borrow.Author.Needs.{needs}
 use mathlib.Core.Bool.{Bool}
 use mathlib.Core.Path.{_≡_, refl}
@@ -6,7 +7,7 @@ use Rattle.descriptor.specs.declared.HalfEntry.{HalfEntry}
 use Rattle.descriptor.specs.declared.HalfEntry.the-variants.{Says}
 use Rattle.half.specs.Inner.{isWidth}
 use Rattle.grid.specs.Grid.{widthOf}
-use Rattle.grid.proofs.Leaves.{width-is}
+use Rattle.grid.proofs.Coverage.{width-is}
 use Rattle.grid.proofs.width_of.Statement.{statement}
 use Rattle.grid.proofs.width_of.Tie as tie
 

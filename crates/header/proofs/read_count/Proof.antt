@@ -1,3 +1,4 @@
+-- The number is read, and then check 8 says that it is at most 64.
 use borrow.Author.Needs.{needs}
 use Rattle.fields.specs.Inner.{saysU32}
 use Rattle.fields.proofs.Steps.{then-by, steps}

@@ -1,3 +1,4 @@
+-- The offsets byte, then the packed byte; what was read before them goes into the answer as it is.
 use borrow.Author.Needs.{needs}
 use Rattle.fields.proofs.Steps.{then-by, steps}
 use Rattle.header.specs.Inner.{saysNumber, saysPacked}

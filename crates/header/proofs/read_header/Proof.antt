@@ -1,3 +1,4 @@
+-- Check 1, then the fields in their order. Of the metadata only the end is used, whatever name is looked for.
 use borrow.Author.Needs.{needs}
 use Rattle.fields.specs.Inner.{saysSpan}
 use Rattle.fields.proofs.Steps.{then-by, steps}

@@ -1,3 +1,4 @@
+-- Eight bytes are read, and then check 3 compares them.
 use borrow.Author.Needs.{needs}
 use Rattle.fields.specs.Inner.{saysSpan}
 use Rattle.fields.proofs.Steps.{then-by, steps}

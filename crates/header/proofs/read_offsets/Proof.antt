@@ -1,3 +1,4 @@
+-- The byte is read, and then check 5 says that it is 1.
 use borrow.Author.Needs.{needs}
 use Rattle.fields.specs.Inner.{saysU8}
 use Rattle.fields.proofs.Steps.{then-by, steps}

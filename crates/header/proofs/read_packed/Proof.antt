@@ -1,3 +1,4 @@
+-- From version 222 on nothing is read; before it one byte is.
 use borrow.Author.Needs.{needs}
 use Rattle.fields.specs.Inner.{saysU8}
 use Rattle.fields.proofs.Steps.{then-by, steps}

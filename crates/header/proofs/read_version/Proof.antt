@@ -1,3 +1,4 @@
+-- The number is read, and then the two tests are the two ends of check 4's range.
 use borrow.Author.Needs.{needs}
 use Rattle.fields.specs.Inner.{saysU32}
 use Rattle.fields.proofs.Steps.{then-by, steps}

@@ -1,98 +1,123 @@
--- The invariant: what is filled, with what is to come, is the whole run. The loop ends because behind each piece less is to come.
+-- The invariant: what is filled, with what is to come, is the whole run. The loop ends because behind each leaf fewer pieces are to come.
 use borrow.Author.Needs.{needs}
 use borrow.Rule.Slice.PartMut.{midOf, same-len-mid, mid-len}
 use mathlib.Core.Path.{_≡_, refl, ap, _∙_}
-use mathlib.Core.List.{List, _∷_, _++_}
-use Prim.Native.Nat.{ℕ, _+_, _-_, _/_, _≤_}
+use mathlib.Core.List.{List, _++_}
+use Prim.Native.Nat.{ℕ, _+_, _-_, _/_, _≤_, _<_}
 use native.Mathlib.Omega.{arith}
 use lib.ListN.{length, take}
-use Rattle.tree.specs.Active.{Piece}
+use Rattle.fields.proofs.Laws.{told}
 use Rattle.cursor.specs.Inner.{toCome, pieceOf}
-use Rattle.cursor.specs.declared.Cursor.{Cursor}
-use Rattle.leaves.specs.Inner.{leavesFrom, valuesOf}
-use Rattle.leaves.proofs.Laws.{none-left, none-read, leaf-next, node-next, fewer, Filling, starts, not-none, leaf-fits, leaf-held, full, passed, skipped, filled, put-behind}
+use Rattle.skip.specs.Inner.{saysSkip}
+use Rattle.skip.proofs.Laws.{recordsIn}
+use Rattle.skip.proofs.Few.{few-records}
+use Rattle.leaves.specs.Inner.{startCursor, leavesFrom, valuesOf}
+use Rattle.leaves.proofs.Laws.{Filling, starts, one-more, leaf-fits, full, filled, put-behind}
+use Rattle.leaves.proofs.Next.{most, NextLeaf, next-leaf, no-end, no-refusal}
 use Rattle.leaves.proofs.fill_run.Statement.{statement}
 use Rattle.leaves.proofs.fill_run.Tie as tie
 
 abbrev Inv-loop : tie.InvT-loop
-Inv-loop s c first slots₀ cursor₀ skip₀ at₀ slots cursor skip at =
-    (length slots ≡ length slots₀) × Filling s c (leavesFrom s c cursor) skip at slots (valuesOf s c (leavesFrom s c cursor₀) skip₀ (length slots₀ / 512))
+Inv-loop s first slots₀ c cursor₀ pass₀ at₀ slots cursor pass at =
+    (length slots ≡ length slots₀) × (recordsIn s (toCome s c cursor .items) ≤ most)
+    × Filling s c (leavesFrom s c cursor) pass at slots (valuesOf s c (leavesFrom s c cursor₀) pass₀ (length slots₀ / 512))
 
 abbrev μ-loop : tie.MeasureT-loop
-μ-loop s c first slots₀ cursor₀ skip₀ at₀ slots cursor skip at = length (toCome s c cursor .items)
+μ-loop s first slots₀ c cursor₀ pass₀ at₀ slots cursor pass at = length (toCome s c cursor .items)
 
--- back from a leaf to the piece, the call, the loop's test and its start
-abbrev found : tie.Then1 Inv-loop μ-loop → tie.After-q Inv-loop μ-loop
-found c = c .before .before .before
+-- back from a call that passes pieces to the loop's start, and to the function's
+abbrev turn : tie.After-skip Inv-loop μ-loop → tie.At-loop Inv-loop μ-loop
+turn c = c .before .before
 
-abbrev asked : tie.After-q Inv-loop μ-loop → tie.After-next-piece Inv-loop μ-loop
-asked c = c .before .before
+abbrev start : tie.At-loop Inv-loop μ-loop → tie.Start Inv-loop μ-loop
+start c = c .before .before .before .before .before
 
-abbrev turn : tie.After-q Inv-loop μ-loop → tie.At-loop Inv-loop μ-loop
-turn c = asked c .before .before
+-- the cursor at the function's start is the one before all roots
+first-cursor : (c : tie.After-between-roots Inv-loop μ-loop) → c .between-roots .result ≡ startCursor (c .before .before .before .before .args .start)
+first-cursor c = c .between-roots .ensures
 
--- the leaf, and the leaves behind it
-abbrev coming : tie.After-q Inv-loop μ-loop → Cursor → List Piece
-coming c x = let start = turn c .before .before .before in leavesFrom (start .args .s .now) (start .args .c) x
+loop-holds : tie.Need-loop-holds Inv-loop μ-loop
+loop-holds c =
+    let a = c .before .before .before .before in
+    let few : recordsIn (a .args .s .now) (toCome (a .args .s .now) (a .args .start .coding) (startCursor (a .args .start)) .items) ≤ most =
+    omega (arith, few-records (a .args .s .now) (a .args .start .coding) (a .args .start .«root_count») (a .args .start .«roots_pos») (a .args .start .«block_pos»), a .pre .1) in
+    (refl, rw (first-cursor c) few, rw (first-cursor c) (starts (a .pre .2)))
 
-leaf : (c : tie.Then1 Inv-loop μ-loop) → pieceOf (found c .q .given .0 .0) ∷ coming (found c) (found c .q .given .0 .1 .0) ≡ coming (found c) (turn (found c) .loop .cursor)
-leaf c = leaf-next _ _ _ (asked (found c) .next-piece .ensures) (found c .q .given .1) (c .if1 .taken)
+-- a leaf is left, so that neither the end nor a refusal comes
+some-left : (c : tie.After-skip Inv-loop μ-loop) → let l = turn c .loop in l .pass < length (leavesFrom (start (turn c) .args .s .now) (start (turn c) .args .start .coding) (l .cursor))
+some-left c = one-more (turn c .loop .inv .2) (c .before .loop-test .taken)
 
-fits : (c : tie.Then2 Inv-loop μ-loop) → turn (found (c .before)) .loop .at + 512 ≤ length (turn (found (c .before)) .loop .slots)
-fits c = leaf-fits (turn (found (c .before)) .loop .inv .1) (asked (found (c .before)) .before .loop-test .taken)
+returns : tie.Need-returns Inv-loop μ-loop
+returns c =
+    let k = c .before .before in
+    absurd (no-end _ _ (start (turn k) .pre .0) _ (turn k .loop .inv .1) _ (some-left k) (told saysSkip (c .enum-told .given .1) (k .skip .ensures)))
 
--- the part that is lent has 512 slots
+returns-2 : tie.Need-returns-2 Inv-loop μ-loop
+returns-2 c =
+    let k = c .before .before in
+    absurd (no-refusal _ _ (start (turn k) .pre .0) _ (turn k .loop .inv .1) _ (some-left k) (told saysSkip (c .enum-told2 .given .1) (k .skip .ensures)))
+
+-- the leaf that comes next, and its slots
+abbrev call : tie.After-q Inv-loop μ-loop → tie.After-skip Inv-loop μ-loop
+call c = c .before .before
+
+leaf : (c : tie.After-q Inv-loop μ-loop) → let l = turn (call c) in
+    NextLeaf (start l .args .s .now) (start l .args .start .coding) (l .loop .pass) (l .loop .cursor) (record { piece = pieceOf (c .q .given .0 .0); behind = c .q .given .0 .1 .0 })
+leaf c = next-leaf _ _ (start (turn (call c)) .pre .0) _ (turn (call c) .loop .inv .1) _ (told saysSkip (c .q .given .1) (call c .skip .ensures))
+
+fits : (c : tie.After-q Inv-loop μ-loop) → turn (call c) .loop .at + 512 ≤ length (turn (call c) .loop .slots)
+fits c = leaf-fits (turn (call c) .loop .inv .2) (call c .before .loop-test .taken)
+
 lent : (at : ℕ) (slots : List ℕ) → at + 512 ≤ length slots → length (midOf at (at + 512 - at) slots) ≡ 512
 lent at slots h = mid-len at (at + 512) slots h ∙ omega arith
 
+fill-leaf-requires : tie.Need-fill-leaf-requires Inv-loop μ-loop
+fill-leaf-requires c κs =
+    let q = c .before .before .before in
+    let l = turn (call q) .loop in
+    (leaf q .held, lent (l .at) (l .slots) (fits q))
+
 loop-again : tie.Need-loop-again Inv-loop μ-loop
 loop-again c =
-    let then = c .before .before .before .before .before in
-    let l = turn (found (then .before)) .loop in
-    let call = c .before .before .fill-leaf in
-    let kept = call .kept .1 .1 .1 .1 .0 in
-    let same = same-len-mid (l .at) (l .at + 512 - l .at) (l .slots) (call .last .1 .1 .1 .1 .0) kept in
-    let many = kept ∙ lent (l .at) (l .slots) (fits then) in (
+    let q = c .before .before .before .before .before .before in
+    let l = turn (call q) .loop in
+    let f = c .before .before .fill-leaf in
+    let kept = f .kept .1 .1 .1 .1 .0 in
+    let same = same-len-mid (l .at) (l .at + 512 - l .at) (l .slots) (f .last .1 .1 .1 .1 .0) kept in
+    let many = kept ∙ lent (l .at) (l .slots) (fits q) in
+    let n = leaf q in (
       same ∙ l .inv .0,
-      filled (l .inv .1) (leaf (then .before)) (then .if2 .taken) (asked (found (then .before)) .before .loop-test .taken) _ same
-          (put-behind (l .at) (l .slots) _ _ (l .inv .1 .inside) many ∙ ap (λ (v : List ℕ). take (l .at) (l .slots) ++ v) (call .ensures)),
+      n .few,
+      filled (l .inv .2) (n .front) _ _ (n .split) (n .passed) (call q .before .loop-test .taken) _ same
+          (put-behind (l .at) (l .slots) _ _ (l .inv .2 .inside) many ∙ ap (λ (v : List ℕ). take (l .at) (l .slots) ++ v) (f .ensures)),
     )
+
+returns-3 : tie.Need-returns-3 Inv-loop μ-loop
+returns-3 c = rw (← first-cursor (c .before .before)) (full (c .before .loop .inv .2) (c .loop-test .left))
 
 pub fill-run-spec : {M : Type 1} → statement M
 fill-run-spec =
     tie.close
-    (tie.spec Inv-loop μ-loop
-    (λ c. (refl, starts (c .before .before .pre .1)))
-    (λ c κs. c .before .before .before .before .pre .0)
+    (tie.spec
+    Inv-loop
+    μ-loop
+    (λ c κs. search needs)
+    loop-holds
+    (λ c κs. start (c .before) .pre .0)
     (λ c. search needs)
     (λ c. c .before .before .before .before .loop .inv .0)
-    (λ c.
-    let call = c .before .before in
-    absurd (not-none (call .before .before .loop .inv .1) (call .before .loop-test .taken) (none-left _ _ _ (call .next-piece .ensures) (c .enum-told .given .1))))
+    returns
     (λ c. search needs)
     (λ c. c .before .before .before .before .loop .inv .0)
-    (λ c.
-    let call = c .before .before in
-    absurd (not-none (call .before .before .loop .inv .1) (call .before .loop-test .taken) (none-read _ _ _ (call .next-piece .ensures) (c .enum-told2 .given .1))))
+    returns-2
     (λ c. search needs)
-    (λ c. let l = turn (found (c .before)) in omega (arith, fits c, l .loop .inv .0, l .before .before .before .good))
-    (λ c. let l = turn (found (c .before .before)) in omega (arith, fits (c .before), l .loop .inv .0, l .before .before .before .good))
+    (λ c. let l = turn (call (c .before)) in omega (arith, fits (c .before), l .loop .inv .0, start l .good))
+    (λ c. let l = turn (call (c .before .before)) in omega (arith, fits (c .before .before), l .loop .inv .0, start l .good))
     (λ c. omega arith)
     (λ c. omega arith)
-    (λ c. fits (c .before))
-    (λ c κs.
-    let then = c .before .before in
-    let l = turn (found (then .before)) .loop in
-    (leaf-held (l .inv .1) (leaf (then .before)), lent (l .at) (l .slots) (fits then)))
-    (λ c. let q = found (c .before .before .before .before .before .before) in fewer _ _ _ (asked q .next-piece .ensures) (q .q .given .1))
+    (λ c. fits (c .before .before))
+    fill-leaf-requires
+    (λ c. leaf (c .before .before .before .before .before .before) .fewer)
     loop-again
-    (λ c. search needs)
-    (λ c. let q = found (c .before) in fewer _ _ _ (asked q .next-piece .ensures) (q .q .given .1))
-    (λ c. let l = turn (found (c .before)) .loop in (l .inv .0, skipped (l .inv .1) (leaf (c .before)) (c .if2 .left)))
-    (λ c. let q = c .before .before .before in fewer _ _ _ (asked q .next-piece .ensures) (q .q .given .1))
-    (λ c.
-    let q = c .before .before .before in
-    let l = turn q .loop in
-    (l .inv .0, passed (l .inv .1) (node-next _ _ _ (asked q .next-piece .ensures) (q .q .given .1) (c .if1 .left))))
     (λ c. c .before .loop .inv .0)
-    (λ c. full (c .before .loop .inv .1) (c .loop-test .left)))
+    returns-3)

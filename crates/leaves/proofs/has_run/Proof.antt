@@ -1,3 +1,4 @@
+-- Where the first leaf's number is above the count, the difference is 0, and only a run of no leaves is there.
 use borrow.Author.Needs.{needs}
 use borrow.Author.Tests.{le-leb, lt-leb, ne-eqb}
 use mathlib.Core.Path.{_≡_, sym, _∙_}

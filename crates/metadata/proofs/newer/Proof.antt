@@ -1,3 +1,4 @@
+-- The test of the name chooses between the entry and what was found before it.
 use borrow.Author.Needs.{needs}
 use Rattle.fields.proofs.Steps.{steps}
 use Rattle.metadata.proofs.newer.Statement.{statement}

@@ -1,3 +1,4 @@
+-- The name is read; the kind is that of the bytes which the name stands for.
 use borrow.Author.Needs.{needs}
 use Rattle.fields.specs.Inner.{saysSpan}
 use Rattle.fields.proofs.Steps.{then-by, steps}

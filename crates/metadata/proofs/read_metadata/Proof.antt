@@ -1,3 +1,4 @@
+-- The invariant: the entries left from here find the whole answer. The loop ends because fewer of them are left.
 use borrow.Author.Needs.{needs}
 use Prim.Native.Nat.{_≤_, _-_}
 use mathlib.Core.Path.{_≡_}

@@ -1,3 +1,4 @@
+-- The name is compared with six names, one after the other, in the definition's order.
 use borrow.Author.Needs.{needs}
 use Rattle.fields.proofs.Steps.{steps}
 use Rattle.metadata.specs.Metadata.{valueKind}

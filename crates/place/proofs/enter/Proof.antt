@@ -1,3 +1,4 @@
+-- The record is that of the definition, once the number for the stored places is.
 use borrow.Author.Needs.{needs}
 use Rattle.place.proofs.enter.Statement.{statement}
 use Rattle.place.proofs.enter.Tie as tie

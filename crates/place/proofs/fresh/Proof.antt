@@ -1,3 +1,4 @@
+-- The record is that of the definition, once the cursor between roots is.
 use borrow.Author.Needs.{needs}
 use Rattle.place.proofs.fresh.Statement.{statement}
 use Rattle.place.proofs.fresh.Tie as tie

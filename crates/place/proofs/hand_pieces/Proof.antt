@@ -1,15 +1,12 @@
 -- The invariant: what is left to hand out from here is the whole. The loop ends because behind each piece less is to come.
 use borrow.Author.Needs.{needs}
-use mathlib.Core.Path.{_≡_, refl, sym, ap, _∙_}
-use Prim.Native.Nat.{ℕ, _-_}
-use native.Mathlib.Omega.{arith}
+use Prim.Native.Nat.{_-_}
 use lib.ListN.{length}
 use Rattle.fields.proofs.Laws.{told}
-use Rattle.cursor.specs.Inner.{toCome}
 use Rattle.records.specs.Slots.{slotsOf}
 use Rattle.records.specs.Inner.{Room}
 use Rattle.records.proofs.Laws.{Same, same, fills-same, room-same}
-use Rattle.place.specs.Inner.{handOn, saysStand}
+use Rattle.place.specs.Inner.{listingFrom, handOn, saysStand}
 use Rattle.place.proofs.Laws.{Coming, comes, stops-so, goes-next}
 use Rattle.place.proofs.hand_pieces.Statement.{statement}
 use Rattle.place.proofs.hand_pieces.Tie as tie
@@ -20,7 +17,7 @@ Inv-loop table s c limit x₀ y₀ z₀ level₀ value₀ at₀ x y z level valu
     × Coming (at .filled) (handOn s c (limit - at .filled) (at .cursor) (at .inside)) (slotsOf x y z level value) (handOn s c limit (at₀ .cursor) (at₀ .inside)) (slotsOf x₀ y₀ z₀ level₀ value₀)
 
 abbrev μ-loop : tie.MeasureT-loop
-μ-loop table s c limit x₀ y₀ z₀ level₀ value₀ at₀ x y z level value at = length (toCome s c (at .cursor) .items)
+μ-loop table s c limit x₀ y₀ z₀ level₀ value₀ at₀ x y z level value at = length (listingFrom s c (at .cursor))
 
 abbrev filled : tie.After-known-told Inv-loop μ-loop → tie.After-fill-piece Inv-loop μ-loop
 filled c = c .before .before .before .before .before .before .before .before .before .before .before .before

@@ -1,24 +1,23 @@
+-- Each way out is one law: not all was whole, all slots are filled, no piece comes, or the next one is entered.
 use borrow.Author.Needs.{needs}
-use mathlib.Core.Path.{_≡_, ap}
 use borrow.Author.Tests.{not-true, not-false}
-use native.Mathlib.Omega.{arith}
 use Rattle.fields.proofs.Laws.{told}
-use Rattle.cursor.specs.Inner.{Rest, Stop, saysPiece}
+use Rattle.place.specs.Inner.{saysListed}
 use Rattle.place.proofs.Laws.{not-whole, all-filled, none-to-come, stands-next}
 use Rattle.place.proofs.next_stand.Statement.{statement}
 use Rattle.place.proofs.next_stand.Tie as tie
 
 returns-3 : tie.Need-returns-3
-returns-3 c = none-to-come _ _ _ _ (ap (λ (z : Rest Stop). z .items) (told (saysPiece _ _) (c .enum-told .given .1) (c .before .before .next-piece .ensures)))
+returns-3 c = none-to-come _ _ _ _ (told (saysListed _ _) (c .enum-told .given .1) (c .before .before .next-listed .ensures))
 
 returns-4 : tie.Need-returns-4
-returns-4 c = none-to-come _ _ _ _ (ap (λ (z : Rest Stop). z .items) (told (saysPiece _ _) (c .enum-told2 .given .1) (c .before .before .next-piece .ensures)))
+returns-4 c = none-to-come _ _ _ _ (told (saysListed _ _) (c .enum-told2 .given .1) (c .before .before .next-listed .ensures))
 
 returns-5 : tie.Need-returns-5
 returns-5 c =
     let p = c .before .before in
     let n = p .before .before in
-    stands-next _ _ (not-false _ (n .before .before .before .if1 .left)) (n .before .if2 .left) (told (saysPiece _ _) (p .q .given .1) (n .next-piece .ensures)) (c .enter .ensures)
+    stands-next _ _ (not-false _ (n .before .before .before .if1 .left)) (n .before .if2 .left) (told (saysListed _ _) (p .q .given .1) (n .next-listed .ensures)) (c .enter .ensures)
 
 pub next-stand-spec : {M : Type 1} → statement M
 next-stand-spec =

@@ -1,3 +1,4 @@
+-- Three numbers that were read in a row are joined; the first that is not whole decides.
 use borrow.Author.Needs.{needs}
 use Rattle.fields.specs.Inner.{saysU32}
 use Rattle.fields.proofs.Steps.{then-by, steps}

@@ -1,3 +1,4 @@
+-- The axes 0 and 1 are told apart; any other number stands for the last axis.
 use borrow.Author.Needs.{needs}
 use Rattle.records.proofs.Runs.{axis-last}
 use Rattle.records.proofs.along.Statement.{statement}

@@ -1,3 +1,4 @@
+-- The level is put in for each of the three ways out. There is a place, so a level that is not 0 or 1 is 2.
 use borrow.Author.Needs.{needs}
 use mathlib.Core.Path.{_≡_}
 use Rattle.records.proofs.Levels.{last-level}

@@ -1,3 +1,4 @@
+-- The ones of the lowest z bits are the digits below z; at 64 nothing has to be cut off.
 use borrow.Author.Needs.{needs}
 use mathlib.Core.Path.{_≡_, sym, ap, _∙_}
 use Prim.Native.Nat.{ℕ, _^_, _<_}

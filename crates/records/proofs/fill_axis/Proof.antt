@@ -1,3 +1,4 @@
+-- The invariant: k slots have the coordinates of the first k corners. The loop ends at 64.
 use borrow.Author.Needs.{needs, sfits-of}
 use mathlib.Core.Path.{_≡_, refl, ap, _∙_}
 use Prim.Native.Nat.{_-_, _≤_}

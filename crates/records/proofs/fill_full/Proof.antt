@@ -1,3 +1,4 @@
+-- The five slices are filled one by one, and together they are the 64 records.
 use borrow.Author.Needs.{needs}
 use mathlib.Core.Path.{sym, _∙_}
 use native.Mathlib.Omega.{arith}

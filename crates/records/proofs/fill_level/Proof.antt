@@ -1,3 +1,4 @@
+-- The invariant: k slots have the level. The loop ends at 64.
 use borrow.Author.Needs.{needs}
 use mathlib.Core.Path.{_≡_, refl}
 use Prim.Native.Nat.{_-_, _≤_}

@@ -1,3 +1,4 @@
+-- All places are passed, or the words are no walk's in a piece, or they are, and so the masks and values can be read.
 use borrow.Author.Needs.{needs}
 use mathlib.Core.Path.{sym, _∙_}
 use Prim.Native.Nat.{_*_, _<_}

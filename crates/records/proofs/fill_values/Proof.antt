@@ -1,3 +1,4 @@
+-- The invariant: k slots have the first k values, whose numbers are below the room. The loop ends at 64.
 use borrow.Author.Needs.{needs}
 use mathlib.Core.Path.{_≡_, refl}
 use Prim.Native.Nat.{ℕ, _+_, _-_, _≤_, _<_}

@@ -1,3 +1,4 @@
+-- A full word's 64 places are all active, so its run is what the word hands out; the other two ways are the calls' own.
 use borrow.Author.Needs.{needs}
 use mathlib.Core.Path.{_≡_, sym, _∙_}
 use mathlib.Core.Bool.{true}

@@ -1,3 +1,4 @@
+-- Each level has its constant, and past the last level there are no bytes.
 use native.Mathlib.Omega.{arith}
 use mathlib.Core.Path.{refl}
 use lib.Dec.{lit≤}

@@ -1,3 +1,4 @@
+-- Where every place is stored, the places passed are counted, and else the active ones.
 use borrow.Author.Needs.{needs}
 use Rattle.records.proofs.Ones.{number-every, number-active}
 use Rattle.records.proofs.number_behind.Statement.{statement}

@@ -1,3 +1,4 @@
+-- The stored places that are skipped are at most the places passed, so both sums fit.
 use borrow.Author.Needs.{needs}
 use mathlib.Core.Path.{ap}
 use Prim.Native.Nat.{ℕ, _+_}

@@ -1,3 +1,4 @@
+-- A place is left in the word, so the numbers stay in their bounds; the rest is the definition.
 use borrow.Author.Needs.{needs}
 use native.Mathlib.Omega.{arith}
 use mathlib.Core.Path.{refl}

@@ -1,3 +1,4 @@
+-- A word and the number one below it have in common the word's ones above its lowest.
 use borrow.Author.Needs.{needs}
 use native.Mathlib.Numerals.{add-one}
 use Rattle.records.proofs.Ones.{lowest-off}

@@ -1,3 +1,4 @@
+-- Each of the five slices has room for the slot, and is set there.
 use borrow.Author.Needs.{needs}
 use native.Mathlib.Omega.{arith}
 use Rattle.records.proofs.put_record.Statement.{statement}

@@ -1,3 +1,4 @@
+-- None of the places is active: all are stored, or none is, or those without a child.
 use borrow.Author.Needs.{needs}
 use borrow.Author.Tests.{ne-eqb}
 use native.Mathlib.Omega.{arith}

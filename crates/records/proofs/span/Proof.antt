@@ -1,3 +1,4 @@
+-- There are three levels, and the product for each is a constant.
 use borrow.Author.Needs.{needs}
 use native.Mathlib.Omega.{arith}
 use mathlib.Core.Path.{_≡_}

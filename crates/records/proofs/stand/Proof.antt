@@ -1,3 +1,4 @@
+-- The record is that of the definition, once the number of the next stored value is.
 use borrow.Author.Needs.{needs}
 use Rattle.records.proofs.stand.Statement.{statement}
 use Rattle.records.proofs.stand.Tie as tie

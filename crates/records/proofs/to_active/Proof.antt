@@ -1,3 +1,4 @@
+-- The word has a one among the places left, so its zeros before it are fewer than these.
 use mathlib.Core.Path.{_≡_}
 use Prim.Native.Nat.{_^_, _<_}
 use native.Mathlib.Nat.{lt-of-lt-of-le}

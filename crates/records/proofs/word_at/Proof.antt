@@ -1,3 +1,4 @@
+-- Both masks' words, shifted so that the next place's bit is the lowest, have the bits of the places left.
 use borrow.Author.Needs.{needs}
 use mathlib.Core.Path.{refl}
 use native.Mathlib.Omega.{arith}

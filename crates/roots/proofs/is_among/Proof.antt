@@ -1,3 +1,4 @@
+-- The invariant: whether the origin is among those from here on is the whole answer. The loop ends because fewer are left.
 use borrow.Author.Needs.{needs}
 use Rattle.roots.proofs.Laws.{among-here, among-later, among-none}
 use Rattle.roots.specs.Roots.{isAmong}

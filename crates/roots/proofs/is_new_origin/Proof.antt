@@ -1,3 +1,4 @@
+-- The first test is the first part of the definition; where it holds, the answer is the second part.
 use borrow.Author.Needs.{needs}
 use mathlib.Core.Bool.{Bool, true, false, not, _&&_}
 use mathlib.Core.Path.{_≡_, refl, ap}

@@ -1,3 +1,4 @@
+-- The number is read, and then check 15 says that it is 1.
 use borrow.Author.Needs.{needs}
 use Rattle.fields.specs.Inner.{saysU32}
 use Rattle.fields.proofs.Steps.{steps, then-by}

@@ -1,3 +1,4 @@
+-- The three numbers are read, and then check 17 says that the origin is aligned and new.
 use borrow.Author.Needs.{needs}
 use Rattle.fields.specs.Inner.{saysIVec3}
 use Rattle.fields.proofs.Steps.{steps, then-by}

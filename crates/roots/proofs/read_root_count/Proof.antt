@@ -1,3 +1,4 @@
+-- The number is read, and then check 16 compares it with the limit.
 use borrow.Author.Needs.{needs}
 use Rattle.fields.specs.Inner.{saysU32}
 use Rattle.fields.proofs.Steps.{steps, then-by}

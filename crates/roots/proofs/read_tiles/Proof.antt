@@ -1,3 +1,4 @@
+-- Reading so many tiles of 17 bytes is passing their whole length; where there is none, nothing is read.
 use borrow.Author.Needs.{needs}
 use Rattle.fields.specs.Inner.{saysSpan}
 use Rattle.fields.proofs.Steps.{steps, then-by, via}

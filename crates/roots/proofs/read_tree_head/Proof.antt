@@ -1,3 +1,4 @@
+-- The fields in their order; each way out is the definition up to the field that fails.
 use borrow.Author.Needs.{needs}
 use mathlib.Core.Path.{refl}
 use Rattle.fields.specs.Inner.{saysU32}

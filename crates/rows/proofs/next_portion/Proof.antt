@@ -88,7 +88,10 @@ next-portion-spec =
     (λ c κs. search needs)
     (λ c. search needs)
     sum
-    (λ c. search needs) (λ c. search needs) (λ c. search needs) (λ c. search needs)
+    (λ c. sym (called-1 (c .before) .walk .kept .1 .1 .0))
+    (λ c. sym (called-1 (c .before .before) .walk .kept .1 .1 .1 .0))
+    (λ c. sym (called-1 (c .before .before .before) .walk .kept .1 .1 .1 .1 .0))
+    (λ c. sym (called-1 (c .before .before .before .before) .walk .kept .1 .1 .1 .1 .1 .0))
     (λ c. let a = called-2 c in sym (scratch-back (size a) (value a) (kept a)))
     few
     (λ c. search needs)

@@ -1,3 +1,4 @@
+-- The name is compared with four names, one after the other, in the definition's order.
 use borrow.Author.Needs.{needs}
 use Rattle.fields.proofs.Laws.{when-true, when-false, is-true, is-false}
 use Rattle.transform.specs.Transform.{mapKind}

@@ -1,3 +1,4 @@
+-- Each kind is one case of the definition: its vectors are whole or not, and no map is check 14.
 use borrow.Author.Needs.{needs}
 use Rattle.transform.proofs.Laws.{of-kind}
 use Rattle.fields.proofs.Steps.{chain, then-by}

@@ -1,3 +1,4 @@
+-- A width that is not 2 is 4, so each product by a constant is the product by the width.
 use borrow.Author.Needs.{needs}
 use mathlib.Core.Path.{_≡_}
 use native.Mathlib.Omega.{arith}

@@ -1,5 +1,5 @@
 use borrow.Author.Needs.{needs}
-use Rattle.archive.specs.Answers.{saysEntryAnswer}
+use Rattle.answers.specs.Answers.{saysEntryAnswer}
 use Rattle.vdb.proofs.Laws.{answers, laid-by}
 use Rattle.vdb.proofs.vdb_grid_entry_named.Statement.{statement}
 use Rattle.vdb.proofs.vdb_grid_entry_named.Tie as tie

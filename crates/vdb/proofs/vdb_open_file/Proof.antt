@@ -1,5 +1,5 @@
 use borrow.Author.Needs.{needs}
-use Rattle.archive.specs.Answers.{saysHeaderAnswer}
+use Rattle.answers.specs.Answers.{saysHeaderAnswer}
 use Rattle.vdb.proofs.Laws.{answers, laid-by}
 use Rattle.vdb.proofs.vdb_open_file.Statement.{statement}
 use Rattle.vdb.proofs.vdb_open_file.Tie as tie

@@ -2,7 +2,7 @@ use borrow.Author.Needs.{needs}
 use Rattle.archive.specs.declared.Asked.the-variants as A
 use Rattle.fields.proofs.Laws.{told}
 use Rattle.grid.specs.Answers.{saysGridAnswer}
-use Rattle.vdb.proofs.Doubles.{opened-held}
+use Rattle.outward.proofs.Doubles.{opened-held}
 use Rattle.vdb.proofs.Laws.{open-refused, open-gave}
 use Rattle.vdb.proofs.vdb_open_grid_named.Statement.{statement}
 use Rattle.vdb.proofs.vdb_open_grid_named.Tie as tie

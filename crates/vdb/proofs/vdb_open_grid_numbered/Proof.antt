@@ -3,7 +3,7 @@ use mathlib.Core.List.{[]}
 use Rattle.archive.specs.declared.Asked.the-variants as A
 use Rattle.fields.proofs.Laws.{told}
 use Rattle.grid.specs.Answers.{saysGridAnswer}
-use Rattle.vdb.proofs.Doubles.{opened-held}
+use Rattle.outward.proofs.Doubles.{opened-held}
 use Rattle.vdb.proofs.Laws.{open-refused, open-gave}
 use Rattle.vdb.proofs.vdb_open_grid_numbered.Statement.{statement}
 use Rattle.vdb.proofs.vdb_open_grid_numbered.Tie as tie
@@ -20,7 +20,7 @@ vdb-open-grid-numbered-spec =
     tie.close
     (tie.spec
     (λ c κs. search needs) (λ c. search needs) (λ c. search needs) opened-words-requires (λ c κs. search needs)
-    (λ c. open-refused _ _ (c .before .before .before .open-grid-numbered .ensures) (c .before .k .given .1))
+    (λ c. open-refused _ _ (c .before .before .before .open-grid-numbered .ensures) (c .before .check .given .1))
     (λ c.
     let g = c .before .before .before .before in
     open-gave _ _ (g .before .before .open-grid-numbered .ensures) (g .g .given .1) (c .before .opened-words .ensures) (c .words-of .ensures)))

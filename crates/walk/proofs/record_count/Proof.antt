@@ -1,3 +1,4 @@
+-- The calls give the shortest of the five lengths, and the test gives the smaller of this and what is left.
 use borrow.Author.Needs.{needs}
 use native.Mathlib.Omega.{arith}
 use mathlib.Core.Path.{_≡_, ap, _∙_}

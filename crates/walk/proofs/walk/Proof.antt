@@ -4,10 +4,10 @@ use mathlib.Core.Path.{_≡_, refl, sym, _∙_}
 use mathlib.Core.Bool.{true}
 use borrow.Author.Tests.{not-true, not-false}
 use Rattle.records.specs.Slots.{Slots, slotsOf, slotCount}
-use Rattle.place.specs.Inner.{Walks}
 use Rattle.place.proofs.Laws.{walks-same}
-use Rattle.walk.specs.Inner.{isWide, wanted, courseFrom}
-use Rattle.walk.proofs.Laws.{wide-width, count-room, walks-by, left-enough, does-nothing, not-wide, none-found, some-found, keeps}
+use Rattle.walk.specs.Inner.{isWide, wanted}
+use Rattle.walk.proofs.Wide.{wide-width, told-wide}
+use Rattle.walk.proofs.Laws.{count-room, walks-by, left-enough, does-nothing, not-wide, none-found, some-found, keeps}
 use Rattle.walk.proofs.walk.Statement.{statement}
 use Rattle.walk.proofs.walk.Tie as tie
 
@@ -16,7 +16,7 @@ abbrev tested : tie.After-hand-on → tie.Else2
 tested c = c .before .before .before .before .before .before .before .before
 
 abbrev counted : tie.After-hand-on → tie.After-record-count
-counted c = tested c .before .before .before .before
+counted c = tested c .before .before .before .before .before
 
 abbrev start : tie.After-record-count → tie.Start
 start c = c .before .before .before .before
@@ -26,10 +26,10 @@ lent c = slotsOf (c .args .x .now) (c .args .y .now) (c .args .z .now) (c .args 
 
 -- what is known once the records are handed out
 some-wanted : (c : tie.After-hand-on) → wanted (start (counted c) .args .p) (slotCount (lent (start (counted c)))) ≡ 0 → ⊥
-some-wanted c e = tested c .before .before .before .if1 .left (counted c .record-count .ensures ∙ e)
+some-wanted c e = tested c .before .before .before .before .if1 .left (counted c .record-count .ensures ∙ e)
 
-wide : (c : tie.Else2) → isWide (c .before .before .before .before .before .before .before .before .args .p .coding .width) ≡ true
-wide c = sym (c .before .is-wide .ensures) ∙ not-false _ (c .if2 .left)
+wide : (c : tie.Else2) → isWide (c .before .before .before .before .before .before .before .before .before .args .p .start .coding .width) ≡ true
+wide c = sym (told-wide _ (c .before .is-wide .ensures)) ∙ not-false _ (c .if2 .left)
 
 abbrev handed : tie.Then3 → tie.After-hand-on
 handed c = c .before .before .before .before .before .before .before .before .before
@@ -45,8 +45,9 @@ walk-spec =
     (λ c. keeps _ _ _ (does-nothing _ _ _ (sym (c .before .record-count .ensures) ∙ c .if1 .taken) refl))
     (λ c κs. search needs)
     (λ c. keeps _ _ _
-    (not-wide _ _ _ (λ e. c .before .before .before .if1 .left (c .before .before .before .before .record-count .ensures ∙ e)) (sym (c .before .is-wide .ensures) ∙ not-true _ (c .if2 .taken))))
-    (λ c κs. let t = c .before .before .before .before .before .before .before in (wide-width _ (wide t), count-room _ _ _ (t .before .before .before .before .record-count .ensures)))
+    (not-wide _ _ _ (λ e. c .before .before .before .before .if1 .left (c .before .before .before .before .before .record-count .ensures ∙ e))
+    (sym (told-wide _ (c .before .is-wide .ensures)) ∙ not-true _ (c .if2 .taken))))
+    (λ c κs. let t = c .before .before .before .before .before .before .before in (wide-width _ (wide t), count-room _ _ _ (t .before .before .before .before .before .record-count .ensures)))
     (λ c. walks-same (handed c .hand-on .ensures) .in-x)
     (λ c. walks-same (handed c .hand-on .ensures) .in-y)
     (λ c. walks-same (handed c .hand-on .ensures) .in-z)
@@ -68,4 +69,4 @@ walk-spec =
     (λ c.
     let h = handed-on (c .before) in
     let p = start (counted h) .args .p in
-    keeps _ _ _ (some-found _ p _ (some-wanted h) (wide (tested h)) (walks-by _ p _ (counted h .record-count .ensures) (h .hand-on .ensures)) (c .before .if3 .left) (c .step .ensures) refl)))
+    keeps _ _ _ (some-found _ p _ (some-wanted h) (wide (tested h)) (walks-by _ p _ (counted h .record-count .ensures) (h .hand-on .ensures)) (c .before .if3 .left) (c .moved-to .ensures) refl)))

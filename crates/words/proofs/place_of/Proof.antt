@@ -5,15 +5,11 @@ use Rattle.words.proofs.place_of.Tie as tie
 
 returns : tie.Need-returns
 unfolding placeOf
-returns c =
-    let parts = c .before in
-    let coding = parts .before .before in
-    rw (coding .before .low .ensures, coding .low2 .ensures, parts .before .cursor-of .ensures, parts .inside-of .ensures, c .low3 .ensures)
+returns c = rw (c .before .before .start-of .ensures, c .before .cursor-of .ensures, c .inside-of .ensures)
 
 pub place-of-spec : {M : Type 1} → statement M
 place-of-spec =
     tie.close
     (tie.spec
-    (λ c. search needs) (λ c κs. search needs) (λ c. search needs) (λ c κs. search needs) (λ c. search needs) (λ c κs. search needs) (λ c κs. search needs)
-    (λ c. search needs) (λ c. search needs) (λ c κs. search needs) (λ c. search needs) (λ c. search needs) (λ c. search needs)
+    (λ c κs. search needs) (λ c κs. search needs) (λ c κs. search needs) (λ c. search needs)
     returns)

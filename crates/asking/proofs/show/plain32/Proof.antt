@@ -1,3 +1,4 @@
+-- A number that fits 32 bits is the same number in 64.
 use borrow.Author.Needs.{needs}
 use native.Mathlib.Omega.{arith}
 use mir.ValLaws.{toZ-ofZ}

@@ -1,0 +1,41 @@
+-- The grid is opened, the slots and the leaves are tested, and then the run is filled.
+use borrow.Author.Needs.{needs}
+use borrow.Author.Tests.{not-true, not-false}
+use mathlib.Core.Path.{_≡_, refl, ap, _∙_}
+use Rattle.fields.proofs.Laws.{told}
+use Rattle.archive.specs.Answer.{gives}
+use Rattle.grid.specs.Grid.{openGrid}
+use Rattle.grid.specs.Answers.{saysGridAnswer}
+use Rattle.leaves.proofs.Tree.{run-refuses, run-absent, run-gives, run-enough}
+use Rattle.leaves.proofs.fill_asked.Statement.{statement}
+use Rattle.leaves.proofs.fill_asked.Tie as tie
+
+-- back from the test to the grid, and to the start
+abbrev grid : tie.After-fits2 → tie.After-g
+grid c = c .before .before .before .before
+
+abbrev start : tie.After-fits2 → tie.Start
+start c = grid c .before .before .before .before .before .before
+
+opened : (c : tie.After-fits2) → gives (grid c .g .given .0 .0) ≡ openGrid (start c .args .s .now) (start c .args .asked) (start c .args .name .now)
+opened c = told saysGridAnswer (grid c .g .given .1) (grid c .before .before .open-grid .ensures)
+
+returns : tie.Need-returns
+returns c = let k = c .before in (run-absent _ _ _ _ _ _ _ (opened k) _ (k .fits2 .ensures) (not-true _ (c .if1 .taken)), refl)
+
+fill-run-requires : tie.Need-fill-run-requires
+fill-run-requires c κs = let k = c .before .before in run-enough _ _ _ _ _ _ _ (opened k) _ (k .fits2 .ensures) (not-false _ (c .before .if1 .left))
+
+returns-2 : tie.Need-returns-2
+returns-2 c = let o = c .before .before .before in (run-refuses _ _ _ _ _ _ _ (told saysGridAnswer (c .before .k .given .1) (o .open-grid .ensures)), refl)
+
+returns-3 : tie.Need-returns-3
+returns-3 c =
+    let run = c .before .before in
+    let k = run .before .before .before in
+    (ap gives (run .fill-run .ensures) ∙ run-gives _ _ _ _ _ _ _ (opened k) _ (k .fits2 .ensures) (not-false _ (run .before .before .if1 .left)), tt)
+
+pub fill-asked-spec : {M : Type 1} → statement M
+fill-asked-spec =
+    tie.close
+    (tie.spec (λ c κs. search needs) (λ c. search needs) (λ c. search needs) (λ c κs. search needs) returns fill-run-requires returns-2 (λ c. search needs) returns-3)

@@ -1,6 +1,0 @@
-use borrow.Author.Needs.{needs}
-use Rattle.metadata.proofs.has_bytes.Statement.{statement}
-use Rattle.metadata.proofs.has_bytes.Tie as tie
-
-pub has-bytes-spec : {M : Type 1} → statement M
-has-bytes-spec = tie.close (tie.spec (λ c κs. search needs) (λ c κs. search needs) (λ c. cc))

@@ -1,0 +1,6 @@
+use borrow.Author.Needs.{needs}
+use Rattle.outward.proofs.descriptor_words.Statement.{statement}
+use Rattle.outward.proofs.descriptor_words.Tie as tie
+
+pub descriptor-words-spec : {M : Type 1} → statement M
+descriptor-words-spec = tie.close (tie.spec (λ c. search needs) (λ c κs. search needs) (λ c. rw (c .half-number .ensures)))

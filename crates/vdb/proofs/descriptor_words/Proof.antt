@@ -1,6 +1,0 @@
-use borrow.Author.Needs.{needs}
-use Rattle.vdb.proofs.descriptor_words.Statement.{statement}
-use Rattle.vdb.proofs.descriptor_words.Tie as tie
-
-pub descriptor-words-spec : {M : Type 1} → statement M
-descriptor-words-spec = tie.close (tie.spec (λ c. search needs) (λ c κs. search needs) (λ c. rw (c .half-number .ensures)))
