@@ -17,6 +17,7 @@ import tables
 
 # Rounds, and repetitions a round, for each size in megabytes. In a round each program runs once, one after the other.
 ROUNDS = {1: (7, 9), 10: (5, 5), 100: (4, 2)}
+HOSTILE = 3, 3
 
 
 def lines_of(command):
@@ -109,6 +110,21 @@ def calls(build):
     return {name: sorted(found[name]) for name in sorted(found)}
 
 
+def hostile(build):
+    """The times of opening each file that was made to cost as much as it can."""
+    found = []
+    for path in sorted((build / 'clouds' / 'hostile').glob('*.vdb')):
+        cloud = {'name': path.stem, 'times': collections.defaultdict(list)}
+        for line in [line for _ in range(HOSTILE[0]) for line in lines_of([build / 'hostile', path, str(HOSTILE[1])])]:
+            what, name, *values = line.split()
+            if what == 'time':
+                cloud['times'][name].append([float(value) for value in values])
+            else:
+                cloud[name] = int(values[0])
+        found.append(cloud)
+    return found
+
+
 def stack(build, clouds):
     """The most that each function used over these clouds."""
     most = collections.Counter()
@@ -137,6 +153,7 @@ def run(build, short):
     figures = machine()
     start, busy, own = time.monotonic(), processor_seconds(), own_seconds()
     figures['clouds'] = [measure(path, programs) for path in paths]
+    figures['hostile'] = hostile(build)
     figures['minutes'] = (time.monotonic() - start) / 60
     figures['beside'] = max(0, processor_seconds() - busy - (own_seconds() - own)) / (time.monotonic() - start)
     small = [p for p in paths if '_1_' in p.stem]

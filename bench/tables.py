@@ -3,6 +3,8 @@ import statistics
 
 KINDS = [('fog', '4'), ('levelset', '4'), ('fog', '2'), ('levelset', '2')]
 NAMES = {'fog': 'fog', 'levelset': 'level set', '4': 'floats', '2': 'halves'}
+HOSTILE = {'ends': '64 names, each nearly the whole file, alike but for their ends', 'middle': 'the same, alike but for their middle',
+           'metadata': '64 grids over one metadata of the whole file'}
 
 
 class Figures:
@@ -165,6 +167,15 @@ def targets(f):
     ]
 
 
+def hostile(figures, statistic, clock):
+    """Opening the files that are made to cost as much as they can."""
+    def ms(cloud, name):
+        return statistic([time[clock] for time in cloud['times'][name]])
+
+    return ['File', 'bytes', 'memcpy, ms', 'opening the file, ms', 'opening / memcpy'], [
+        [HOSTILE[c['name']], c['bytes'], ms(c, 'memcpy'), ms(c, 'open_file'), ms(c, 'open_file') / ms(c, 'memcpy')] for c in figures['hostile']]
+
+
 def costs(figures):
     rows = [['text', figures['sizes']['text']], ['read-only data', figures['sizes']['rodata']]]
     names = {'open_file': 'opening a file', 'grid': 'a descriptor', 'entry': 'a metadata entry', 'open': 'opening a grid', 'walk': 'a walk call',
@@ -218,6 +229,7 @@ def show(figures, markdown, processor):
     part('Opening, walking everything, adding up the records', readers(medians))
     part('Leaf values', leaves(medians))
     part('Growth with the size of the file', growing(medians))
+    part('Opening hostile files', hostile(figures, statistics.median, int(processor)))
     part('Size of the library, stack', costs(figures))
     part('Instructions', counted(figures))
     part('Calls that the compiler left in the library', left(figures))

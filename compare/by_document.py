@@ -1,5 +1,5 @@
 #!/usr/bin/env python3
-"""Prints a cloud in the text of README.md, by document 01: over the Python reader of tools/questions.
+"""Prints a cloud in the text of README.md, by document 01. All reading is tools/questions/document.py's, here is only the text.
 
     by_document.py FILE [--values] [--more]
 """
@@ -35,63 +35,21 @@ def entry_lines(entries):
         yield entry_line(name, latest[name])
 
 
-def node(reader, coding, places):
-    child, value = reader.mask(places), reader.mask(places)
-    by.check(not child & value, 18)
-    return child, value, by.Stored(reader, coding, places, child, value)
-
-
-def tree(reader, coding):
-    """The background, and the pieces in list order, each with its origin, side, step, level, mask and values; a leaf's
-    values are not yet known."""
-    by.check(reader.u32() == 1, 15)
-    background, tiles, roots = reader.u32(), reader.u32(), reader.u32()
-    by.check(roots <= 256, 16)
-    reader.take(17 * tiles)
-    origins, pieces = set(), []
-    for _ in range(roots):
-        origin = reader.numbers('iii')
-        by.check(not any(number % 4096 for number in origin) and origin not in origins, 17)
-        origins.add(origin)
-        child5, value5, stored5 = node(reader, coding, 32768)
-        for place5 in by.rising(child5):
-            origin4 = by.moved(origin, place5, 32, 128)
-            child4, value4, stored4 = node(reader, coding, 4096)
-            for place4 in by.rising(child4):
-                pieces.append((by.moved(origin4, place4, 16, 8), 8, 1, 0, reader.mask(512), None))
-            pieces.append((origin4, 16, 8, 1, value4, stored4))
-        pieces.append((origin, 32, 128, 2, value5, stored5))
-    return background, pieces
-
-
-def grid_lines(data, file, grid, values, more):
-    by.check(grid.type[2] in (b'Tree_float_5_4_3', b'Tree_float_5_4_3_HalfFloat'), 12)
-    by.check(not grid.parent[2], 13)
-    by.check(not grid.flags & 5, 6)
-    half = dict(grid.entries).get(b'is_saved_as_half_float') == ('b', (True,))
-    coding = by.Coding(file.version, grid.flags, 2 if half else 4)
-    reader = by.Reader(data, grid.tree)
-    case, doubles = by.transform(reader)
-    background, pieces = tree(reader, coding)
-    reader = by.Reader(data, grid.block)
-    leaves, records = [], []
-    for origin, side, step, level, mask, stored in pieces:
-        if level == 0:
-            stored = by.block(reader, coding, origin, mask)
-            leaves.append((origin, stored))
-        for place in by.rising(mask):
-            records.append((by.moved(origin, place, side, step), level, stored.at(place)))
+def grid_lines(data, file, number, values, more):
+    grid = by.Opened(data, number, file)
+    case, doubles = grid.map
     yield 'map ' + NAMES[case]
     for at in range(0, len(doubles), 3):
         yield 'vector ' + ' '.join('%016x' % double for double in doubles[at:at + 3])
     if more:
-        yield 'background %08x' % background
-    yield 'leaves %d' % len(leaves)
-    for number, (origin, stored) in enumerate(leaves):
-        yield from canonical.leaf_lines(number, origin, [stored.at(place) for place in range(512)], values)
-    yield 'records %d' % len(records)
-    for record in records:
-        yield canonical.record_line(*record, more)
+        yield 'background %08x' % grid.background
+    origins = [origin for *_, nodes in grid.tree for *_, leaves in nodes for origin, _ in leaves]
+    yield 'leaves %d' % len(grid.leaves)
+    for leaf, origin in enumerate(origins):
+        yield from canonical.leaf_lines(leaf, origin, grid.fill(leaf, 512), values)
+    yield 'records %d' % grid.records
+    for *corner, level, value in grid.active():
+        yield canonical.record_line(corner, level, value, more)
 
 
 def lines(data, values=False, more=False):
@@ -106,7 +64,7 @@ def lines(data, values=False, more=False):
     yield 'identity ' + canonical.quoted(file.identity[2])
     yield from entry_lines(file.entries)
     yield 'grids %d' % len(file.grids)
-    for grid in sorted(file.grids, key=lambda grid: grid.name[2]):
+    for number, grid in sorted(enumerate(file.grids), key=lambda found: found[1].name[2]):
         yield 'grid ' + canonical.quoted(grid.name[2])
         yield 'type ' + canonical.quoted(grid.type[2])
         yield 'parent ' + canonical.quoted(grid.parent[2])
@@ -114,7 +72,7 @@ def lines(data, values=False, more=False):
         yield 'flags %d' % grid.flags
         yield from entry_lines(grid.entries)
         try:
-            yield from list(grid_lines(data, file, grid, values, more))
+            yield from list(grid_lines(data, file, number, values, more))
         except by.Refused as refused:
             yield 'refused %s' % refused
 

@@ -1,9 +1,14 @@
-"""Clouds made field by field: A and B of docs/DIFFERENCES.md, and what can be made of them."""
+"""Clouds made field by field: A and B of docs/DIFFERENCES.md, and what can be made of them. What A has in a field is taken from tools/case_a.py.
+
+No reader is used here: what a reader takes apart must not have been put together by its own code.
+"""
+import os
 import struct
+import sys
 
-
-def u32(n):
-    return struct.pack('<I', n)
+sys.path.append(os.path.join(os.path.dirname(os.path.abspath(__file__)), '..', 'tools'))
+import case_a  # noqa: E402
+from case_a import FIELD, u32  # noqa: E402
 
 
 def text(data):
@@ -11,7 +16,7 @@ def text(data):
 
 
 def mask(places, ones):
-    return sum(1 << place for place in ones).to_bytes(places // 8, 'little')
+    return case_a.mask(places, *ones)
 
 
 def corner(origin, place, side, step):
@@ -32,32 +37,37 @@ def old(count, **values):
     return bytes(found)
 
 
-ONE = 0x3f800000
-A_LEAF = mask(512, [74])
+def a_node(name):
+    return b''.join(FIELD[name + part] for part in (', child mask', ', value mask', ', node byte'))
 
 
-def a_root(origin=(-4096, 0, 4096), five=None, four=None):
-    return struct.pack('<iii', *origin) + (five or node(32768, [1057])) + (four or node(4096, [4095])) + A_LEAF
+ONE = int.from_bytes(FIELD['block, stored value 0'], 'little')
+A_LEAF = FIELD['leaf, value mask']
+
+
+def a_root(origin=None, five=None, four=None):
+    start = FIELD['root origin'] if origin is None else struct.pack('<iii', *origin)
+    return start + (five or a_node('5-node')) + (four or a_node('4-node')) + A_LEAF
 
 
 def b_root(five=((), {}), four=((), {})):
-    """B's root; of 5-node and 4-node the value bits and stored values may be given."""
-    return (struct.pack('<iii', -4096, 0, 4096) + node(32768, [1057], five[0], old(32767, **five[1]))
-            + node(4096, [4095], four[0], old(4095, **four[1])) + A_LEAF)
+    """B's root, which is A's with other stored values; of 5-node and 4-node the value bits and stored values may be given."""
+    return (FIELD['root origin'] + FIELD['5-node, child mask'] + mask(32768, five[0]) + old(32767, **five[1])
+            + FIELD['4-node, child mask'] + mask(4096, four[0]) + old(4095, **four[1]) + A_LEAF)
 
 
-def a_block(ones=(74,), stored=b'\0' + u32(ONE)):
-    return mask(512, ones) + stored
+def a_block(ones=None, stored=FIELD['block, node byte'] + FIELD['block, stored value 0']):
+    return (FIELD['block, mask'] if ones is None else mask(512, ones)) + stored
 
 
-def b_block(ones=(74,), origin=(-3848, 248, 4344), buffers=1):
-    return mask(512, ones) + struct.pack('<iiiB', *origin, buffers) + old(512, n74=ONE)
+def b_block(ones=None, origin=(-3848, 248, 4344), buffers=1):
+    return a_block(ones, struct.pack('<iiiB', *origin, buffers) + old(512, n74=ONE))
 
 
 class Grid:
-    """A grid: its descriptor's texts, and the bytes at its grid position and at its block position."""
+    """A grid: its descriptor's texts, and the bytes at its grid position and at its block position. What is not given is A's."""
 
-    def __init__(self, name=b'd', type=b'Tree_float_5_4_3', parent=b'', flags=2, entries=(), map=b'ScaleMap',
+    def __init__(self, name=FIELD['name'], type=FIELD['type'], parent=b'', flags=2, entries=(), map=FIELD['map'],
                  doubles=bytes(120), buffers=1, background=0, tiles=b'', roots=None, root_count=None, block=None,
                  positions=None, gaps=(b'', b'')):
         self.name, self.type, self.parent, self.positions = name, type, parent, positions or {}
@@ -90,7 +100,7 @@ def metadata(entries):
         for name, kind, value, *length in entries)
 
 
-def cloud(version=224, *grids, magic=bytes.fromhex('2042445600000000'), offsets=1, packed=0, entries=(), count=None,
+def cloud(version=224, *grids, magic=FIELD['magic'], offsets=1, packed=0, entries=(), count=None,
           library=(10, 1), identity=bytes(36)):
     data = magic + struct.pack('<IIIB', version, *library, offsets) + (bytes([packed]) if 220 <= version <= 221 else b'')
     data += identity + metadata(entries) + u32(len(grids) if count is None else count)
@@ -107,9 +117,36 @@ def b(file=None, **grid):
     return cloud(220, Grid(**grid), **file or {})
 
 
+def crowded(length, step=32, middle=False):
+    """64 grids whose names stand inside one another: each has `length` bytes and starts `step` bytes behind the one before. From the
+    front they are the same until near their ends, or with `middle` until near their middle; at the end all but 32 bytes of a step are
+    the same. `length` + 4 is a multiple of `step`."""
+    first = len(cloud(count=64))
+    behind = first + 4 + length
+    unit = u32(length).ljust(step, b'n')
+    grid = behind + 64 * step
+    data = bytearray(cloud(count=64) + unit * ((4 + length) // step))
+    for number in range(64):
+        data += (text(b'') + text(b'') + struct.pack('<QQQ', grid, grid, first + (number + 1) * step)).ljust(step, b'n')
+    if middle:
+        data[first + (4 + length) // step // 2 * step + step // 2] = ord('m')
+    return bytes(data) + bytes(8)
+
+
+def shared(entries):
+    """64 grids whose descriptors all name one grid position, so that one metadata of so many entries is read for each of them."""
+    first, row = len(cloud(count=64)), 4 + 2 + 4 + 4 + 24
+    grid = first + 64 * row
+    data = bytearray(cloud(count=64))
+    for number in range(64):
+        data += text(b'%02d' % number) + text(b'') + text(b'') + struct.pack('<QQQ', grid, grid, first + (number + 1) * row)
+    return bytes(data) + u32(2) + u32(entries) + (text(b'n') + text(b'bool') + u32(1) + b'\1') * entries
+
+
 def put(data, at, new):
     return data[:at] + new + data[at + len(new):]
 
 
-A, B = a(), b()
+A, B = case_a.A, b()
+assert a() == A
 END = len(A)

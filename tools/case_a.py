@@ -3,15 +3,17 @@
 
     case_a.py            prints the table of its fields that docs/FORMAT.md has
     case_a.py --bytes    writes its 9,637 bytes to standard output
-    case_a.py --check    exit status 1 if docs/FORMAT.md has another table
+    case_a.py --check    exit status 1 if docs/FORMAT.md has another table, or crates/listing/stdin other bytes
 
-Fields that the case leaves free are zero here, but for the library numbers.
+Fields that the case leaves free are zero here, but for the library numbers. Whatever makes a cloud of case A takes its fields from here: tools/questions,
+tools/openvdb/rows.py, compare/cloud.py. No reader does.
 """
 import pathlib
 import struct
 import sys
 
-PAGE = pathlib.Path(__file__).resolve().parent.parent / 'docs' / 'FORMAT.md'
+ROOT = pathlib.Path(__file__).resolve().parent.parent
+PAGE, STORED = ROOT / 'docs' / 'FORMAT.md', ROOT / 'crates' / 'listing' / 'stdin'
 GRID, BLOCK, LENGTH = 118, 9568, 9637
 
 
@@ -60,7 +62,7 @@ def fields():
     field('library number, major', u32(10), 'free')
     field('library number, minor', u32(1), 'free')
     field('offsets byte', b'\1', '1')
-    field('identity', bytes(36), 'free')
+    field('identity', bytes(36), 'free; zeros here, where OpenVDB reads only the text of a UUID')
     field('metadata of the file, count', u32(0), '0')
     field('grid count', u32(1), '1')
     string('name', b'd')
@@ -88,6 +90,21 @@ def fields():
     return out
 
 
+def placed():
+    """Where each field starts, by its name."""
+    found, at = {}, 0
+    for name, data, _ in fields():
+        assert name not in found
+        found[name] = at
+        at += len(data)
+    return found
+
+
+# Each field's bytes and its start by its name, and all of them.
+FIELD, AT = {name: data for name, data, _ in fields()}, placed()
+A = b''.join(FIELD.values())
+
+
 def main(arguments):
     rows, at, positions = ['| Position | Bytes | Field | Content |', '|---|---|---|---|'], 0, {}
     for name, data, words in fields():
@@ -96,10 +113,13 @@ def main(arguments):
     assert at == LENGTH and positions['flags'] == GRID and positions['block, mask'] == BLOCK
     table = '\n'.join(rows) + '\n'
     if arguments == ['--bytes']:
-        sys.stdout.buffer.write(b''.join(data for _, data, _ in fields()))
+        sys.stdout.buffer.write(A)
     elif arguments == ['--check']:
         if '\n\n' + table + '\n' not in PAGE.read_text(encoding='utf-8'):
             print('docs/FORMAT.md has another table', file=sys.stderr)
+            return 1
+        if STORED.read_bytes() != A:
+            print('crates/listing/stdin has other bytes', file=sys.stderr)
             return 1
     elif arguments:
         print(__doc__.strip(), file=sys.stderr)

@@ -27,20 +27,24 @@ FAULTS = [
      "self.end = reader.position(), reader.position(), *reader.numbers('Q')\n        inner = Reader(reader.data, self.grid)\n"
      "        self.flags = inner.u32() if version >= 222 else int(packed)\n        check(self.flags <= 7, 7)\n"
      "        check(self.end <= len(reader.data), 9)\n"),
+    ('names the same in their first 4,096 bytes taken as the same', 'document', 'grid.name[2] not in [other.name[2] for',
+     'grid.name[2][:4096] not in [other.name[2][:4096] for'),
+    ('names the same in their last 32 bytes taken as the same', 'document', 'grid.name[2] not in [other.name[2] for',
+     'grid.name[2][-32:] not in [other.name[2][-32:] for'),
     ('a fixed kind skipped by its length', 'document', 'value = letter, reader.numbers(form)',
      "value = letter, reader.numbers(form)\n            reader.take(max(0, length - struct.calcsize('<' + form)))"),
     ('of one name the first entry counts', 'by_document', 'latest = dict(entries)', 'latest = dict(reversed(entries))'),
-    ('the first half entry counts', 'by_document', "dict(grid.entries).get", "dict(reversed(grid.entries)).get"),
-    ('a half entry of any kind counts', 'by_document', "== ('b', (True,))", "not in (None, ('b', (False,)))"),
-    ('type and parent: checks exchanged', 'by_document',
-     "    by.check(grid.type[2] in (b'Tree_float_5_4_3', b'Tree_float_5_4_3_HalfFloat'), 12)\n    by.check(not grid.parent[2], 13)\n",
-     "    by.check(not grid.parent[2], 13)\n    by.check(grid.type[2] in (b'Tree_float_5_4_3', b'Tree_float_5_4_3_HalfFloat'), 12)\n"),
-    ('packed and parent: checks exchanged', 'by_document', "    by.check(not grid.parent[2], 13)\n    by.check(not grid.flags & 5, 6)\n",
-     "    by.check(not grid.flags & 5, 6)\n    by.check(not grid.parent[2], 13)\n"),
-    ('257 roots accepted', 'by_document', 'roots <= 256', 'roots <= 257'),
-    ('tiles of 16 bytes', 'by_document', '17 * tiles', '16 * tiles'),
-    ('origins at multiples of 2048 accepted', 'by_document', 'number % 4096', 'number % 2048'),
-    ('a child and value bit at one place accepted', 'by_document', '    by.check(not child & value, 18)\n', ''),
+    ('the first half entry counts', 'document', "b'is_saved_as_half_float'][-1:]", "b'is_saved_as_half_float'][:1]"),
+    ('a half entry of any kind counts', 'document', "half == [('b', (True,))]", "half not in ([], [('b', (False,))])"),
+    ('type and parent: checks exchanged', 'document',
+     "        check(grid.type[2] in (b'Tree_float_5_4_3', b'Tree_float_5_4_3_HalfFloat'), 12)\n        check(not grid.parent[2], 13)\n",
+     "        check(not grid.parent[2], 13)\n        check(grid.type[2] in (b'Tree_float_5_4_3', b'Tree_float_5_4_3_HalfFloat'), 12)\n"),
+    ('packed and parent: checks exchanged', 'document', "        check(not grid.parent[2], 13)\n        check(not grid.flags & 5, 6)\n",
+     "        check(not grid.flags & 5, 6)\n        check(not grid.parent[2], 13)\n"),
+    ('257 roots accepted', 'document', 'count <= 256', 'count <= 257'),
+    ('tiles of 16 bytes', 'document', '17 * tiles', '16 * tiles'),
+    ('origins at multiples of 2048 accepted', 'document', 'number % 4096', 'number % 2048'),
+    ('a child and value bit at one place accepted', 'document', '    check(not child & value, 18)\n', ''),
     ('node byte 7 accepted', 'document', 'byte <= 6', 'byte <= 7'),
     ('inactive values widened as halves', 'document', 'self.first = reader.u32()', "self.first = widened(reader.numbers('H')[0]) if self.width == 2 else reader.u32()"),
     ('the second inactive value where the selection bit is 0', 'document', 'self.second if self.selection >> place & 1 else self.first',
@@ -52,7 +56,11 @@ FAULTS = [
     ('a block\'s mask not compared', 'document', 'check(reader.mask(512) == mask, 20)', 'reader.mask(512)'),
     ('a block\'s origin not compared', 'document', "check(reader.numbers('iii') == origin, 20)", "reader.numbers('iii')"),
     ('a block\'s buffers not compared', 'document', 'check(reader.u8() == 1, 20)', 'reader.u8()'),
-    ('tiles of a 4-node before its leaves', 'by_document', 'pieces.append((origin4', 'pieces.insert(len(pieces) - by.ones(child4), (origin4'),
+    ('tiles of a 4-node before its leaves', 'document',
+     "                for origin, mask in leaves:\n                    found += active_places(0, origin, mask, next(blocks))\n"
+     "                found += active_places(1, origin4, value4, stored4)\n",
+     "                found += active_places(1, origin4, value4, stored4)\n"
+     "                for origin, mask in leaves:\n                    found += active_places(0, origin, mask, next(blocks))\n"),
 ]
 
 

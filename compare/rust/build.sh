@@ -1,15 +1,15 @@
 #!/usr/bin/env bash
-# Builds `dump` over the three Rust files, unchanged, in build/, which git ignores.
+# Builds `dump` over the three Rust files, unchanged, in target/compare/rust.
 #
-#     build.sh [SOURCE]      SOURCE is the directory of reader.rs, data_structure.rs, transform.rs
+#     build.sh SOURCE        SOURCE is the directory of reader.rs, data_structure.rs, transform.rs
 #
 # The crates that they need come from Debian's pool, each compared with its sum in crates.sha256. Where glam is not to be
 # had, or STANDINS=all is set, our stand-in takes its place.
-# build/checked/dump has overflow checks, build/release/dump has none.
+# checked/dump has overflow checks, release/dump has none.
 set -euo pipefail
 here=$(cd "$(dirname "$0")" && pwd)
-source=${1:-$here/../../../shared/docs/src/src}
-build=$here/build
+source=${1:?the directory of reader.rs, data_structure.rs and transform.rs}
+build=$(cd "$here/../.." && pwd)/target/compare/rust
 # where this machine has its packages from
 pool=${DEBIAN_MIRROR:-$(apt-get indextargets --format '$(REPO_URI)' 'Created-By: Packages' | grep -v security | head -n 1)}
 mkdir -p "$build/debs" "$build/vdb"

@@ -8,7 +8,8 @@
     layout.py FILE PREFIX           compares all four with PREFIX.txt, .listing, .document, .openvdb
 
 It knows the document only, OpenVDB not at all, so that equal output means that the document's
-layout is the layout of the files. It is meant for whole files: the map is read with the descriptor,
+layout is the layout of the files. It shares no code with tools/questions/document.py, which is
+compared with what is confirmed here (compare/README.md). It is meant for whole files: the map is read with the descriptor,
 so a damaged file may get another refusal than the document's.
 """
 import struct
