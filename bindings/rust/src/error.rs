@@ -12,20 +12,24 @@ macro_rules! checks {
             $(#[doc = concat!("Check ", $number, ": ", $text, ".")] $name,)*
             /// A check that this crate does not know by name: the linked library is newer.
             Other(u32),
+            /// The library did answer, with a map or a kind of entry that this crate does not know: the linked library is newer. No check failed.
+            UnknownAnswer,
         }
 
         impl ParseError {
-            /// The number of the check.
+            /// The number of the check; 0 for [`UnknownAnswer`](Self::UnknownAnswer), where none failed.
             pub fn number(self) -> u32 {
                 match self {
                     $(Self::$name => $number,)*
                     Self::Other(number) => number,
+                    Self::UnknownAnswer => 0,
                 }
             }
 
-            /// The check with this number.
+            /// The error with this number: that of a check, or 0.
             pub fn from_number(number: u32) -> Self {
                 match number {
+                    0 => Self::UnknownAnswer,
                     $($number => Self::$name,)*
                     _ => Self::Other(number),
                 }
@@ -36,6 +40,7 @@ macro_rules! checks {
                 match self {
                     $(Self::$name => $text,)*
                     Self::Other(_) => "a check that this program does not know",
+                    Self::UnknownAnswer => "an answer of the library that this program does not know",
                 }
             }
         }
@@ -79,7 +84,10 @@ impl ParseError {
 
 impl fmt::Display for ParseError {
     fn fmt(&self, f: &mut fmt::Formatter<'_>) -> fmt::Result {
-        write!(f, "{} (check {})", self.text(), self.number())
+        match self {
+            Self::UnknownAnswer => f.write_str(self.text()),
+            check => write!(f, "{} (check {})", check.text(), check.number()),
+        }
     }
 }
 

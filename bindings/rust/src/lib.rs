@@ -192,7 +192,10 @@ impl<'f> GridDescriptor<'f> {
 }
 
 /// A grid's transform. Vectors are x, y and z, each double bit for bit as in the file.
+///
+/// A program that matches on it has an arm for maps that a later version of this crate may know.
 #[derive(Clone, Copy, Debug, PartialEq)]
+#[non_exhaustive]
 pub enum Map {
     /// `UniformScaleMap` or `ScaleMap` in the file.
     UniformScaleMap {
@@ -225,10 +228,10 @@ pub enum Map {
 }
 
 impl Map {
-    /// From the number of doubles, 15 or 18, and their patterns.
-    fn new(doubles: u64, patterns: &[u64]) -> Self {
+    /// From the number of doubles, which tells the map, and their patterns. A number that no map here has is [`ParseError::UnknownAnswer`].
+    fn new(doubles: u64, patterns: &[u64; sys::DOUBLES]) -> Result<Self, ParseError> {
         let vector = |i: usize| [3 * i, 3 * i + 1, 3 * i + 2].map(|i| f64::from_bits(patterns[i]));
-        match doubles {
+        Ok(match doubles {
             15 => Self::UniformScaleMap {
                 scale_values: vector(0),
                 voxel_size: vector(1),
@@ -236,7 +239,7 @@ impl Map {
                 inv_scale_sqr: vector(3),
                 inv_twice_scale: vector(4),
             },
-            _ => Self::ScaleTranslateMap {
+            18 => Self::ScaleTranslateMap {
                 translation: vector(0),
                 scale_values: vector(1),
                 voxel_size: vector(2),
@@ -244,7 +247,8 @@ impl Map {
                 inv_scale_sqr: vector(4),
                 inv_twice_scale: vector(5),
             },
-        }
+            _ => return Err(ParseError::UnknownAnswer),
+        })
     }
 }
 
@@ -293,12 +297,13 @@ impl<'f> VdbReader<'f> {
         GridDescriptor::find(self.file, self.header.file_version, Asked::Numbered(n))
     }
 
-    /// Opens the grid of this name: all of it is checked.
+    /// Opens the grid of this name: all of it is checked. [`ParseError::UnknownAnswer`] if its transform is a map that this crate does not know, which
+    /// only a newer library gives.
     pub fn read_grid(&self, name: impl AsRef<[u8]>) -> Result<Grid<'f>, ParseError> {
         self.open(Asked::Named(name.as_ref()))
     }
 
-    /// Opens the grid with this number from 0: all of it is checked.
+    /// Opens the grid with this number from 0, as [`read_grid`](Self::read_grid) does by name.
     pub fn read_grid_numbered(&self, n: u32) -> Result<Grid<'f>, ParseError> {
         self.open(Asked::Numbered(n))
     }
@@ -309,7 +314,7 @@ impl<'f> VdbReader<'f> {
         Ok(Grid {
             file: self.file,
             descriptor: GridDescriptor::find(self.file, self.header.file_version, grid)?,
-            transform: Map::new(doubles, &patterns),
+            transform: Map::new(doubles, &patterns)?,
             background: background as u32,
             active_count,
             leaf_count,
@@ -353,7 +358,8 @@ impl<'f> Grid<'f> {
         f32::from_bits(self.background)
     }
 
-    /// How many records the active list has.
+    /// How many records the active list has. Active tiles of the root, cubes of 4096 a side, are none of them: see
+    /// [`root_tile_count`](Self::root_tile_count).
     pub fn active_count(&self) -> u64 {
         self.active_count
     }
@@ -361,6 +367,12 @@ impl<'f> Grid<'f> {
     /// How many leaves the tree has. They are numbered from 0.
     pub fn leaf_count(&self) -> u64 {
         self.leaf_count
+    }
+
+    /// How many tiles the root has, active or not. They are in no list and no count, so where there are any, the active voxels may be more than the
+    /// active list covers.
+    pub fn root_tile_count(&self) -> u32 {
+        self.place.0[sys::PLACE_TILE_COUNT] as u32
     }
 
     /// The entry of this name in the grid's metadata.
@@ -422,5 +434,24 @@ impl<'f> IntoIterator for &Grid<'f> {
 
     fn into_iter(self) -> Iter<'f> {
         self.iter()
+    }
+}
+
+#[cfg(test)]
+mod tests {
+    use super::*;
+
+    #[test]
+    fn a_map_of_another_number_of_doubles_has_no_name() {
+        let patterns = core::array::from_fn(|i| (i as f64).to_bits());
+        for doubles in (0..=40).chain([u64::MAX]) {
+            let map = Map::new(doubles, &patterns);
+            match doubles {
+                // include/vdb.h: the scale comes first, or behind the translation.
+                15 => assert!(matches!(map, Ok(Map::UniformScaleMap { scale_values: [0.0, 1.0, 2.0], .. }))),
+                18 => assert!(matches!(map, Ok(Map::ScaleTranslateMap { scale_values: [3.0, 4.0, 5.0], .. }))),
+                _ => assert_eq!(map, Err(ParseError::UnknownAnswer)),
+            }
+        }
     }
 }

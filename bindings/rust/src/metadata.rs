@@ -14,7 +14,10 @@ pub struct Metadata<'f> {
 }
 
 /// The value of a metadata entry. Texts and raw values are bytes of the file.
+///
+/// A program that matches on it has an arm for kinds that a later version of this crate may know.
 #[derive(Clone, Copy, Debug, PartialEq)]
+#[non_exhaustive]
 pub enum MetadataValue<'f> {
     /// Kind `string`. Any bytes, most often UTF-8.
     String(&'f [u8]),
@@ -28,7 +31,7 @@ pub enum MetadataValue<'f> {
     Float(f32),
     /// Kind `bool`.
     Bool(bool),
-    /// Any other kind: its name, and its bytes as they are.
+    /// A kind of the file that is none of these: its name, and its bytes as they are.
     Unknown {
         /// The kind's name.
         name: &'f [u8],
@@ -37,22 +40,30 @@ pub enum MetadataValue<'f> {
     },
 }
 
+impl<'f> MetadataValue<'f> {
+    /// From the words of the library. A number that no kind here has is [`ParseError::UnknownAnswer`]: its other words may mean anything.
+    fn new(file: &'f [u8], [kind, value, len, kind_start, kind_len]: [u64; sys::ENTRY_WORDS]) -> Result<Self, ParseError> {
+        Ok(match kind {
+            0 => Self::String(span(file, value, len)),
+            1 => Self::Bool(value != 0),
+            2 => Self::I32(value as i32),
+            3 => Self::I64(value as i64),
+            4 => Self::Float(f32::from_bits(value as u32)),
+            // The words behind the kind are x, y and z.
+            5 => Self::Vec3i([value as i32, len as i32, kind_start as i32]),
+            6 => Self::Unknown { name: span(file, kind_start, kind_len), data: span(file, value, len) },
+            _ => return Err(ParseError::UnknownAnswer),
+        })
+    }
+}
+
 impl<'f> Metadata<'f> {
-    /// The entry of this name, the last one if there are several; [`ParseError::NotFound`] if there is none.
+    /// The entry of this name, the last one if there are several; [`ParseError::NotFound`] if there is none, [`ParseError::UnknownAnswer`] if the
+    /// library has a number for its kind that this crate does not know, which only a newer library gives.
     ///
     /// Each question reads the file's header and descriptors anew.
     pub fn get(&self, name: impl AsRef<[u8]>) -> Result<MetadataValue<'f>, ParseError> {
-        let [kind, value, len, kind_start, kind_len] = sys::entry(self.file, self.grid, name.as_ref())?;
-        Ok(match kind {
-            0 => MetadataValue::String(span(self.file, value, len)),
-            1 => MetadataValue::Bool(value != 0),
-            2 => MetadataValue::I32(value as i32),
-            3 => MetadataValue::I64(value as i64),
-            4 => MetadataValue::Float(f32::from_bits(value as u32)),
-            // The words behind the kind are x, y and z.
-            5 => MetadataValue::Vec3i([value as i32, len as i32, kind_start as i32]),
-            _ => MetadataValue::Unknown { name: span(self.file, kind_start, kind_len), data: span(self.file, value, len) },
-        })
+        MetadataValue::new(self.file, sys::entry(self.file, self.grid, name.as_ref())?)
     }
 
     /// Whether the entry `is_saved_as_half_float` is there, of kind bool, and true.
@@ -130,5 +141,20 @@ impl<'f> Rest<'f> {
     fn string(&mut self) -> Option<&'f [u8]> {
         let len = self.number()?;
         self.bytes(len as usize)
+    }
+}
+
+#[cfg(test)]
+mod tests {
+    use super::*;
+
+    #[test]
+    fn an_entry_of_another_kind_has_no_name() {
+        // include/vdb.h: 6 is the last kind, and its words are the value's start and length, and the name's.
+        let words = |kind| [kind, 0, 2, 2, 3];
+        assert_eq!(MetadataValue::new(b"abcde", words(6)), Ok(MetadataValue::Unknown { name: b"cde", data: b"ab" }));
+        for kind in (7..=40).chain([u64::MAX]) {
+            assert_eq!(MetadataValue::new(b"abcde", words(kind)), Err(ParseError::UnknownAnswer));
+        }
     }
 }

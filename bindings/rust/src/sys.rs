@@ -11,7 +11,12 @@ pub const FILE_WORDS: usize = 8;
 pub const GRID_WORDS: usize = 13;
 pub const ENTRY_WORDS: usize = 5;
 pub const OPENED_WORDS: usize = 23;
-pub const PLACE_WORDS: usize = 32;
+/// How many doubles an opened grid's words hold.
+pub const DOUBLES: usize = OPENED_WORDS - 5;
+pub const PLACE_WORDS: usize = 35;
+/// The word of a place that is the number of root tiles. The header gives a place's words no meaning; crates/words/specs/Words.antt does, and a test
+/// compares.
+pub const PLACE_TILE_COUNT: usize = 5;
 pub const WALK_COUNTS: usize = 2;
 
 mod c {
@@ -113,7 +118,7 @@ pub fn entry(file: &[u8], grid: Option<&[u8]>, name: &[u8]) -> Result<[u64; ENTR
 pub fn open_grid(file: &[u8], grid: Asked) -> Result<([u64; OPENED_WORDS], [u64; PLACE_WORDS]), ParseError> {
     let (mut out, mut place) = ([0; OPENED_WORDS], [0; PLACE_WORDS]);
     let (f, len, o, p) = (file.as_ptr(), file.len(), out.as_mut_ptr(), place.as_mut_ptr());
-    // SAFETY: each slice has its length, `out` and `place` have the 23 and 32 words that are written.
+    // SAFETY: each slice has its length, `out` and `place` have the 23 and 35 words that are written.
     ParseError::check(unsafe {
         match grid {
             Asked::Named(name) => c::vdb_open_grid_named(f, len, name.as_ptr(), name.len(), o, p),
@@ -130,7 +135,7 @@ pub fn walk(
     [level, value]: [&mut [u32]; 2],
 ) -> Result<[u64; WALK_COUNTS], ParseError> {
     let mut counts = [0; WALK_COUNTS];
-    // SAFETY: each slice has its length, `place` has 32 words and `counts` the 2 that are written; no two `&mut` overlap.
+    // SAFETY: each slice has its length, `place` has 35 words and `counts` the 2 that are written; no two `&mut` overlap.
     ParseError::check(unsafe {
         c::vdb_walk(
             file.as_ptr(),

@@ -3,7 +3,10 @@
 use crate::{sys, ParseError};
 
 /// The size of an item of the active list, named after the child that stands for the same cube.
+///
+/// A program that matches on it has an arm for sizes that a later version of this crate may know; [`side`](Self::side) tells the size without one.
 #[derive(Clone, Copy, Debug, PartialEq, Eq, Hash)]
+#[non_exhaustive]
 pub enum VdbLevel {
     /// Level 2: a cube of 128 voxels a side.
     Node4,

@@ -29,6 +29,7 @@ fn number(level: VdbLevel) -> u32 {
         VdbLevel::Voxel => 0,
         VdbLevel::Node3 => 1,
         VdbLevel::Node4 => 2,
+        level => panic!("{level:?}"),
     }
 }
 
@@ -121,6 +122,17 @@ fn errors_have_numbers_and_texts() {
     }
     assert_eq!(texts.len(), 22);
     assert_eq!(ParseError::from_number(23), ParseError::Other(23));
+    assert_eq!((ParseError::UnknownAnswer.number(), ParseError::from_number(0)), (0, ParseError::UnknownAnswer));
+    assert!(!ParseError::UnknownAnswer.to_string().contains("(check "));
+}
+
+#[test]
+fn root_tiles_are_counted() {
+    // tools/openvdb/make_clouds.cc puts two into "slab", one of them active, and one into the second "zeta".
+    let file = read("several.vdb");
+    let reader = VdbReader::new(&file).unwrap();
+    let counts = [0, 1, 2, 3, 4, 5].map(|n| reader.read_grid_numbered(n).unwrap().root_tile_count());
+    assert_eq!(counts, [0, 0, 0, 2, 1, 0]);
 }
 
 #[test]

@@ -84,6 +84,7 @@ fn entry(file: &[u8], metadata: Metadata, name: &[u8]) -> Result<String, ParseEr
         MetadataValue::Float(value) => format!(" f {:08x}", value.to_bits()),
         MetadataValue::Vec3i([x, y, z]) => format!(" v {x} {y} {z}"),
         MetadataValue::Unknown { name, data } => format!(" o{}{}", span(file, name), span(file, data)),
+        value => panic!("{value:?}"),
     })
 }
 
@@ -109,6 +110,7 @@ fn opened(file: &[u8], q: &Question) -> Result<String, ParseError> {
         Map::ScaleTranslateMap { translation, scale_values, voxel_size, scale_values_inverse, inv_scale_sqr, inv_twice_scale } => {
             ("t", vec![translation, scale_values, voxel_size, scale_values_inverse, inv_scale_sqr, inv_twice_scale])
         }
+        map => panic!("{map:?}"),
     };
     let doubles: String = vectors.concat().iter().map(|double| format!(" {:016x}", double.to_bits())).collect();
     Ok(format!(" {kind}{doubles} {:08x} {} {}", grid.background().to_bits(), grid.leaf_count(), grid.active_count()))

@@ -2,7 +2,8 @@
 
 mod common;
 
-use common::{a_with, case_a, cloud, digest, many_tiles, openvdb, refused_files, repository};
+use common::json::{self, Schema, Value};
+use common::{a_with, case_a, cloud, digest, many_tiles, openvdb, read, refused_files, repository};
 use std::ffi::OsStr;
 use std::fs;
 use std::io::Write;
@@ -42,65 +43,65 @@ impl Drop for Kept {
     }
 }
 
-/// Reads one value of JSON from the front, and gives the rest.
-fn json(text: &str) -> Option<&str> {
-    let text = text.trim_start();
-    match text.chars().next()? {
-        '{' => items(&text[1..], '}', |rest| json(string(rest.trim_start())?.trim_start().strip_prefix(':')?)),
-        '[' => items(&text[1..], ']', json),
-        '"' => string(text),
-        _ => {
-            let end = text.find([',', ']', '}', '\n']).unwrap_or(text.len());
-            let word = &text[..end];
-            let number = word.starts_with(|c: char| c == '-' || c.is_ascii_digit()) && word.parse::<f64>().is_ok();
-            (number || ["true", "false", "null"].contains(&word)).then_some(&text[end..])
-        }
-    }
+/// The output for these arguments, and a cloud.
+fn of(arguments: &[&str], name: &str) -> Output {
+    program().args(arguments).arg(cloud(name)).output().unwrap()
 }
 
-fn items(text: &str, close: char, item: impl Fn(&str) -> Option<&str>) -> Option<&str> {
-    let mut rest = text.trim_start();
-    if let Some(rest) = rest.strip_prefix(close) {
-        return Some(rest);
-    }
-    loop {
-        rest = item(rest)?.trim_start();
-        if let Some(rest) = rest.strip_prefix(close) {
-            return Some(rest);
-        }
-        rest = rest.strip_prefix(',')?;
-    }
+/// What is written with this on standard input.
+fn fed(arguments: &[&str], bytes: &[u8]) -> Output {
+    let mut command = program();
+    command.args(arguments).stdin(Stdio::piped()).stdout(Stdio::piped()).stderr(Stdio::piped());
+    let mut child = command.spawn().unwrap();
+    child.stdin.take().unwrap().write_all(bytes).unwrap();
+    child.wait_with_output().unwrap()
 }
 
-fn string(text: &str) -> Option<&str> {
-    let mut rest = text.strip_prefix('"')?.char_indices();
-    while let Some((i, c)) = rest.next() {
-        match c {
-            '"' => return Some(&text[i + 2..]),
-            '\\' => drop(rest.next()?),
-            c if c < ' ' => return None,
-            _ => (),
-        }
-    }
-    None
-}
-
-fn is_json(text: &str) -> bool {
-    json(text) == Some("\n")
+fn schema() -> Schema {
+    Schema::new(&out(&run(&["--help"])))
 }
 
 #[test]
 fn records_of_case_a_are_those_of_the_listing() {
-    let output = run(&["--records", "d", repository().join("crates/listing/stdin").to_str().unwrap()]);
+    let path = repository().join("crates/listing/stdin");
+    let output = run(&["--hex", "--records", "d", path.to_str().unwrap()]);
     assert_eq!(output.stdout, fs::read(repository().join("crates/listing/stdout")).unwrap());
     assert_eq!((output.status.code(), err(&output).as_str()), (Some(0), ""));
+    // 3f800000 is 1.
+    assert_eq!(out(&run(&["--records", "d", path.to_str().unwrap()])), "records 1\n-3847 249 4346 0 1.0\n");
+}
+
+#[test]
+fn decimals_are_the_floats_of_the_bits() {
+    for name in ["levelset_active.vdb", "half_active.vdb", "edge.vdb"] {
+        let (decimals, bits) = (out(&of(&["--records", "0"], name)), out(&of(&["--records", "0", "--hex"], name)));
+        assert_eq!(decimals.lines().count(), bits.lines().count());
+        for (decimal, bits) in decimals.lines().zip(bits.lines()).skip(1) {
+            let ((place, value), (expected, pattern)) = (decimal.rsplit_once(' ').unwrap(), bits.rsplit_once(' ').unwrap());
+            assert_eq!(place, expected);
+            let expected = f32::from_bits(u32::from_str_radix(pattern, 16).unwrap());
+            // Of a NaN only the bits tell which one it is.
+            if expected.is_nan() {
+                assert_eq!(value, "NaN");
+            } else {
+                assert_eq!(value.parse::<f32>().unwrap().to_bits(), expected.to_bits(), "{name}");
+            }
+        }
+    }
+    // Case A with a background of 2.5, and what is no number.
+    for (pattern, text, in_json) in [(0x40200000u32, "2.5", "2.5"), (0x7f800000, "inf", "\"inf\""), (0x7fc00001, "NaN", "\"NaN\"")] {
+        let file = Kept::new(&format!("background-{pattern:x}"), &a_with(262, &pattern.to_le_bytes()));
+        assert_eq!(field(&out(&run(&[&file.0])), "background"), text);
+        assert_eq!(field(&out(&program().arg("--hex").arg(&file.0).output().unwrap()), "background"), format!("{pattern:08x}"));
+        assert!(out(&program().arg("--json").arg(&file.0).output().unwrap()).contains(&format!("\"background\": {in_json},")));
+    }
 }
 
 #[test]
 fn records_are_those_of_openvdb() {
     for (name, number, expected) in openvdb() {
         let (path, number) = (cloud(&name), number.unwrap_or(0).to_string());
-        let output = run(&[OsStr::new("--records"), OsStr::new(&number), path.as_os_str()]);
+        let output = run(&[OsStr::new("--hex"), OsStr::new("--records"), OsStr::new(&number), path.as_os_str()]);
         if let Some(refused) = expected.strip_prefix("refused ") {
             assert_eq!((output.status.code(), out(&output).as_str()), (Some(1), ""), "{name} {number}");
             assert!(err(&output).contains(&format!(": refused {refused}: ")), "{name} {number}");
@@ -119,10 +120,9 @@ fn records_are_those_of_openvdb() {
 
 #[test]
 fn records_as_json_are_the_same() {
-    let path = cloud("levelset_active.vdb");
-    let text = out(&run(&[OsStr::new("--records"), OsStr::new("0"), path.as_os_str()]));
-    let as_json = out(&run(&[OsStr::new("--json"), OsStr::new("--records"), OsStr::new("0"), path.as_os_str()]));
-    assert!(is_json(&as_json));
+    let text = out(&of(&["--hex", "--records", "0"], "levelset_active.vdb"));
+    let as_json = out(&of(&["--json", "--hex", "--records", "0"], "levelset_active.vdb"));
+    assert_eq!(json::one(&as_json).get("grid"), &Value::Text("surface".into()));
     let rows = as_json.lines().filter_map(|line| line.strip_prefix('[')?.split_once(']'));
     let plain: Vec<_> = rows.map(|(row, _)| row.replace([',', '"'], "")).collect();
     assert_eq!(plain, text.lines().skip(1).collect::<Vec<_>>());
@@ -147,25 +147,24 @@ fn what_is_shown_of_a_grid_is_what_openvdb_says() {
         assert_eq!(output.status.code(), as_json.status.code());
         let Some(number) = number else { continue };
         let (text, as_json) = (out(&output), out(&as_json));
-        assert!(is_json(&as_json), "{name}");
+        let grid = json::one(&as_json).get("grids").items()[number as usize].clone();
         let part = grids(&text)[number as usize];
-        let json_part = as_json.split("\n  {\"name\"").nth(number as usize + 1).unwrap();
         if let Some(refused) = expected.strip_prefix("refused ") {
             assert!(field(part, "refused").starts_with(&format!("{refused}: ")));
-            assert!(json_part.contains(&format!("\"refused\": {refused}, ")));
+            assert_eq!(grid.get("refused").word(), refused);
             continue;
         }
         let words: Vec<_> = expected.split(' ').collect();
         assert_eq!(field(part, "leaves").replace(',', ""), words[1]);
         assert_eq!(field(part, "records").split(':').next().unwrap().replace(',', ""), words[3]);
-        assert!(json_part.contains(&format!("\"records\": {},", words[3])) && json_part.contains(&format!("\"leaves\": {},", words[1])));
+        assert_eq!((grid.get("records").word(), grid.get("leaves").word()), (words[3], words[1]));
         let corners = words[5..].join(" ");
         assert_eq!(field(part, "box").replace("to ", ""), corners, "{name} {number}");
-        let json_box = match &words[5..] {
-            [a, b, c, d, e, f] => format!("\"box\": [[{a}, {b}, {c}], [{d}, {e}, {f}]]"),
-            _ => "\"box\": null".to_string(),
+        let numbers = match grid.get("box") {
+            Value::Word(null) => null.replace("null", "empty"),
+            corners => corners.items().iter().flat_map(Value::items).map(Value::word).collect::<Vec<_>>().join(" "),
         };
-        assert!(json_part.contains(&json_box), "{name} {number}: {json_part}");
+        assert_eq!(numbers, corners, "{name} {number}");
     }
 }
 
@@ -177,13 +176,14 @@ fn metadata_are_listed_with_kind_and_value() {
         "    \"a string\"         string  \"haze été\"",
         "    \"bool yes\"         bool    true",
         "    \"curve\"            \"curve\"  5 bytes: deadbeef00",
-        "    \"float\"            float   2.1 (40066666)",
+        "    \"float\"            float   2.1",
         "    \"int32 least\"      int32   -2147483648",
         "    \"int64 most\"       int64   9223372036854775807",
         "    \"vec3i\"            vec3i   -1 2 2147483647",
     ] {
         assert!(text.lines().any(|found| found == line), "{line}");
     }
+    assert!(out(&of(&["--hex"], "several.vdb")).contains("\n    \"float\"            float   40066666\n"));
     // A byte 1e in a name reaches no terminal.
     assert!(text.contains("grid 0: \"zeta\\u{1e}0\"\n") && !text.contains('\u{1e}'));
     let as_json = out(&run(&[OsStr::new("--json"), cloud("several.vdb").as_os_str()]));
@@ -196,12 +196,17 @@ fn each_refusal_has_its_number_and_status_1() {
         let file = Kept::new(&format!("refused-{number}"), &bytes);
         let output = run(&[&file.0]);
         assert_eq!(output.status.code(), Some(1), "check {number}");
-        assert!(err(&output).contains(&format!(": refused {number}: ")), "check {number}");
-        for grid in [&["--json"][..], &["--json", "--records", "d"]] {
-            let as_json = program().args(grid).arg(&file.0).output().unwrap();
-            assert_eq!(as_json.status.code(), Some(1), "check {number}");
-            let as_json = out(&as_json);
-            assert!(is_json(&as_json) && as_json.contains(&format!("\"refused\": {number}, \"why\": ")), "check {number}");
+        // 6 and 12 to 20 are checks of a grid, which are told in its place; the others are told of the file.
+        if number == 6 || number >= 12 {
+            assert!(field(&out(&output), "refused").starts_with(&format!("{number}: ")), "check {number}");
+            assert!(!err(&output).contains(": refused "), "check {number}");
+        } else {
+            assert!(err(&output).contains(&format!(": refused {number}: ")) && out(&output).is_empty(), "check {number}");
+        }
+        for options in [&["--json"][..], &["--json", "--brief"], &["--json", "--records", "d"]] {
+            let as_json = program().args(options).arg(&file.0).output().unwrap();
+            assert_eq!((as_json.status.code(), err(&as_json).as_str()), (Some(1), ""), "check {number}");
+            assert_eq!(out(&as_json).matches(&format!("\"refused\": {number}, \"why\": ")).count(), 1, "check {number}");
         }
     }
     let file = Kept::new("empty", b"");
@@ -235,13 +240,13 @@ fn a_name_goes_before_a_number() {
     let path = file.0.as_os_str();
     let named = run(&[OsStr::new("--records"), OsStr::new("7"), path]);
     let numbered = run(&[OsStr::new("--records"), OsStr::new("0"), path]);
-    assert_eq!(out(&named), "records 1\n-3847 249 4346 0 3f800000\n");
+    assert_eq!(out(&named), "records 1\n-3847 249 4346 0 1.0\n");
     assert_eq!(out(&named), out(&numbered));
     let absent = run(&[OsStr::new("--records"), OsStr::new("1"), path]);
     assert_eq!(absent.status.code(), Some(1));
     assert!(err(&absent).contains(": refused 11: "));
     let as_json = out(&run(&[OsStr::new("--json"), OsStr::new("--records"), OsStr::new("1"), path]));
-    assert!(is_json(&as_json) && as_json.contains("\"grid\": \"1\", \"refused\": 11, "));
+    assert!(as_json.contains("\"grid\": \"1\", \"refused\": 11, "));
 }
 
 #[test]
@@ -250,7 +255,7 @@ fn the_range_of_the_values_is_that_of_the_records() {
     assert_eq!(field(&text, "values"), "1.0 to 1.0");
     // The narrow band of OpenVDB's sphere, by its list, which another test compares with OpenVDB's.
     let path = cloud("levelset_active.vdb");
-    let list = out(&run(&[OsStr::new("--records"), OsStr::new("0"), path.as_os_str()]));
+    let list = out(&of(&["--hex", "--records", "0"], "levelset_active.vdb"));
     let values = list.lines().skip(1).map(|line| f32::from_bits(u32::from_str_radix(line.rsplit(' ').next().unwrap(), 16).unwrap()));
     let mut sorted: Vec<_> = values.collect();
     sorted.sort_by(f32::total_cmp);
@@ -267,23 +272,57 @@ fn a_path_reaches_no_terminal_as_it_is() {
 fn wrong_calls_have_status_2() {
     let a = repository().join("crates/listing/stdin");
     let a = a.to_str().unwrap();
-    for arguments in
-        [vec![], vec!["--no-such-option", a], vec![a, a], vec!["--records"], vec!["--records", "d"], vec!["/no/such/file"], vec!["/"]]
-    {
-        let output = run(&arguments);
+    for arguments in [
+        &[][..],
+        &["--no-such-option", a],
+        &["--brief"],
+        &["--records"],
+        &["--records", "d"],
+        &["--records", "d", a, a],
+        &["--brief", "--records", "d", a],
+        &["-", "-"],
+    ] {
+        let output = run(arguments);
         assert_eq!(output.status.code(), Some(2), "{arguments:?}");
         assert!(output.stdout.is_empty() && err(&output).starts_with("vdbls: "), "{arguments:?}");
     }
     let help = run(&["--help"]);
     assert_eq!(help.status.code(), Some(0));
     assert!(out(&help).contains("usage: vdbls"));
+    let version = run(&["--version"]);
+    assert_eq!((version.status.code(), out(&version)), (Some(0), format!("vdbls {}\n", env!("CARGO_PKG_VERSION"))));
+}
+
+#[test]
+fn a_file_that_cannot_be_read_has_status_1() {
+    for path in ["/no/such/file", "/"] {
+        let output = run(&[path]);
+        assert_eq!((output.status.code(), out(&output).as_str()), (Some(1), ""), "{path}");
+        assert!(err(&output).starts_with(&format!("vdbls: {path}: ")), "{path}");
+        let brief = run(&["--brief", path]);
+        assert_eq!((brief.status.code(), err(&brief).as_str()), (Some(1), ""), "{path}");
+        assert!(out(&brief).starts_with(&format!("{path}: ")) && out(&brief).lines().count() == 1, "{path}");
+        let as_json = run(&["--json", path]);
+        assert_eq!((as_json.status.code(), err(&as_json).as_str()), (Some(1), ""), "{path}");
+        assert!(matches!(json::one(&out(&as_json)).get("error"), Value::Text(_)), "{path}");
+    }
 }
 
 #[test]
 fn what_is_no_regular_file_is_read() {
-    let mut child = program().args(["--records", "d", "/dev/stdin"]).stdin(Stdio::piped()).stdout(Stdio::piped()).spawn().unwrap();
-    child.stdin.take().unwrap().write_all(&case_a()).unwrap();
-    assert_eq!(out(&child.wait_with_output().unwrap()), "records 1\n-3847 249 4346 0 3f800000\n");
+    assert_eq!(out(&fed(&["--records", "d", "/dev/stdin"], &case_a())), "records 1\n-3847 249 4346 0 1.0\n");
+}
+
+#[test]
+fn standard_input_is_a_file() {
+    assert_eq!(out(&fed(&["--records", "d", "-"], &case_a())), "records 1\n-3847 249 4346 0 1.0\n");
+    let path = cloud("several.vdb");
+    let named = out(&run(&[&path])).replacen(path.to_str().unwrap(), "standard input", 1);
+    assert_eq!(out(&fed(&["-"], &read("several.vdb"))), named);
+    assert_eq!(json::one(&out(&fed(&["--json", "-"], &case_a()))).get("file"), &Value::Text("-".into()));
+    let refused = fed(&["--", "-"], b"");
+    assert_eq!(refused.status.code(), Some(1));
+    assert!(err(&refused).starts_with("vdbls: standard input: refused 2: "));
 }
 
 #[test]
@@ -314,7 +353,7 @@ fn many_entries_are_counted_and_a_repeated_one_is_shown_once() {
     assert_eq!((entries[0], entries[1]), ("    \"n0000\"  int32   1501", "    \"n0001\"  int32   1"));
     assert_eq!(entries[1000], "    and 501 more");
     let as_json = out(&run(&[OsStr::new("--json"), file.0.as_os_str()]));
-    assert!(is_json(&as_json) && as_json.contains("{\"more\": 501}]"));
+    assert!(as_json.contains("{\"more\": 501}]") && schema().fits(&json::one(&as_json), "file", false));
 }
 
 #[test]
@@ -322,7 +361,7 @@ fn a_long_list_is_written_in_portions() {
     let (bytes, expected) = many_tiles();
     let file = Kept::new("tiles", &bytes);
     let path = file.0.as_os_str();
-    assert!(out(&run(&[OsStr::new("--records"), OsStr::new("d"), path])) == expected);
+    assert!(out(&run(&[OsStr::new("--hex"), OsStr::new("--records"), OsStr::new("d"), path])) == expected);
     let text = out(&run(&[path]));
     assert_eq!(field(&text, "records"), "32,768: 1 of side 1, 0 of side 8, 32,767 of side 128");
     // One voxel, and 32,767 cubes of 128 a side.
@@ -341,6 +380,175 @@ fn any_name_is_shown_and_is_json() {
         let file = Kept::new(&format!("name-{}", name[0]), &a_with(69, name));
         assert!(out(&run(&[&file.0])).contains(&format!("\n{text}\n")), "{text}");
         let found = out(&run(&[OsStr::new("--json"), file.0.as_os_str()]));
-        assert!(is_json(&found) && found.contains(as_json), "{found}");
+        assert!(found.contains(as_json) && schema().fits(&json::one(&found), "file", false), "{found}");
     }
+}
+
+#[test]
+fn the_json_has_the_keys_of_the_help() {
+    let schema = schema();
+    let check = |output: &Output, kind: &str, hex: bool| {
+        let text = out(output);
+        assert!(schema.fits(&json::one(&text), kind, hex), "{kind}: {text}");
+    };
+    let mut names: Vec<_> = openvdb().into_iter().map(|(name, ..)| name).collect();
+    names.dedup();
+    for name in names {
+        check(&of(&["--json"], &name), if name == "stream.vdb" { "refused-file" } else { "file" }, false);
+        check(&of(&["--json", "--hex"], &name), if name == "stream.vdb" { "refused-file" } else { "file" }, true);
+        let brief = of(&["--json", "--brief"], &name);
+        check(&brief, if name == "stream.vdb" { "refused-file" } else { "brief" }, false);
+        assert_eq!(out(&brief).lines().count(), 1, "{name}");
+        check(&of(&["--json", "--records", "0"], &name), "list or refused-file", false);
+        check(&of(&["--json", "--hex", "--records", "0"], &name), "list or refused-file", true);
+    }
+    for (number, bytes) in refused_files() {
+        let file = Kept::new(&format!("keys-{number}"), &bytes);
+        for options in [&["--json"][..], &["--json", "--brief"], &["--json", "--records", "d"]] {
+            check(&program().args(options).arg(&file.0).output().unwrap(), "file or brief or refused-file", false);
+        }
+    }
+    check(&run(&["--json", "/no/such/file"]), "unreadable-file", false);
+}
+
+#[test]
+fn the_checker_of_the_keys_refuses() {
+    let schema = schema();
+    let fits = |text: &str, kind: &str| schema.fits(&json::one(&format!("{text}\n")), kind, false);
+    let good = r#"{"file": "a", "grid": "d", "records": 1, "list": [[-1, 2, 3, 0, 1.5]]}"#;
+    assert!(fits(good, "list") && !fits(good, "file"));
+    for (from, to) in [
+        ("\"grid\": \"d\", ", ""),
+        ("\"records\": 1", "\"records\": 1.5"),
+        ("\"records\": 1", "\"records\": \"1\""),
+        ("\"records\": 1", "\"records\": 1, \"other\": 2"),
+        ("\"records\": 1", "\"records\": 1, \"records\": 1"),
+        (", 0, 1.5]", ", 1.5]"),
+        ("1.5", "\"1.5\""),
+        ("\"a\"", "{\"hex\": \"4\"}"),
+    ] {
+        let bad = good.replacen(from, to, 1);
+        assert!(bad != good && !fits(&bad, "list"), "{bad}");
+    }
+    assert!(fits(r#"{"file": "a", "refused": 3, "why": "b"}"#, "refused-file"));
+    assert!(fits(r#"{"file": {"hex": "e9"}, "grid": "g", "refused": 3, "why": "b"}"#, "refused-file"));
+    assert_eq!(json::values("{\"a\": 1,}\n"), None);
+    assert_eq!(json::values("[1] [2]\n"), None);
+}
+
+/// The files of a sequence: two that are listed, one that is refused, and one that is not there.
+fn sequence() -> [PathBuf; 4] {
+    [cloud("fog_active.vdb"), cloud("stream.vdb"), PathBuf::from("/no/such/file"), cloud("smoke.vdb")]
+}
+
+#[test]
+fn several_files_are_listed_one_after_the_other() {
+    let [fog, stream, absent, smoke] = sequence();
+    let both = run(&[&fog, &cloud("edge.vdb")]);
+    assert_eq!((both.status.code(), err(&both).as_str()), (Some(0), ""));
+    assert_eq!(out(&both), format!("{}\n{}", out(&run(&[&fog])), out(&run(&[&cloud("edge.vdb")]))));
+    // Those behind one that is not listed are listed too.
+    let all = run(&[&fog, &stream, &absent, &smoke]);
+    assert_eq!(all.status.code(), Some(1));
+    assert_eq!(out(&all), format!("{}\n{}", out(&run(&[&fog])), out(&run(&[&smoke]))));
+    let said = err(&all);
+    assert!(said.starts_with(&format!("vdbls: {}: refused 5: ", stream.display())), "{said}");
+    assert!(said.contains("\nvdbls: /no/such/file: "), "{said}");
+    let as_json = program().arg("--json").args(sequence()).output().unwrap();
+    assert_eq!((as_json.status.code(), err(&as_json).as_str()), (Some(1), ""));
+    let values = json::values(&out(&as_json)).unwrap();
+    let files: Vec<_> = values.iter().map(|value| value.get("file").clone()).collect();
+    assert_eq!(files, sequence().map(|path| Value::Text(path.to_str().unwrap().into())));
+}
+
+#[test]
+fn by_brief_each_file_has_a_line() {
+    let output = program().arg("--brief").args(sequence()).output().unwrap();
+    assert_eq!(output.status.code(), Some(1));
+    let text = out(&output);
+    let lines: Vec<_> = text.lines().collect();
+    assert_eq!(lines.len(), 4);
+    for (line, path) in lines.iter().zip(sequence()) {
+        assert!(line.starts_with(&format!("{}: ", path.display())), "{line}");
+    }
+    // The numbers are those of openvdb.txt, which another test compares file by file.
+    assert!(lines[0].ends_with(": 33,766 bytes, version 224: \"density\" records 529, leaves 6"), "{}", lines[0]);
+    assert!(lines[1].contains(": refused 5: ") && !err(&output).contains(": refused "));
+    assert!(lines[3].contains(": \"velocity\" refused 12: ") && lines[3].contains("; \"density\" records 500, leaves 8; "), "{}", lines[3]);
+    assert!(out(&of(&["--brief"], "no_grids.vdb")).ends_with(": 65 bytes, version 224: no grids\n"));
+    // One of the root tiles that tools/openvdb/make_clouds.cc makes is not active.
+    assert!(out(&of(&["--brief"], "several.vdb")).contains("\"slab\" records 2, leaves 1, root tiles 2; "));
+    let listed = program().arg("--brief").args([cloud("edge.vdb"), cloud("fog_active.vdb")]).output().unwrap();
+    assert_eq!((listed.status.code(), out(&listed).lines().count(), err(&listed).as_str()), (Some(0), 2, ""));
+}
+
+#[test]
+fn brief_numbers_are_those_of_openvdb() {
+    for (name, number, expected) in openvdb() {
+        let Some(number) = number else { continue };
+        let grid = json::one(&out(&of(&["--json", "--brief"], &name))).get("grids").items()[number as usize].clone();
+        let found = match &grid {
+            Value::Object(keys) if keys.iter().any(|(key, _)| key == "refused") => format!("refused {}", grid.get("refused").word()),
+            grid => format!("leaves {} records {}", grid.get("leaves").word(), grid.get("records").word()),
+        };
+        assert!(format!("{expected} ").starts_with(&format!("{found} ")), "{name} {number}: {found}");
+    }
+}
+
+#[test]
+fn a_refusal_is_told_once() {
+    // By openvdb.txt: which grids of this file are refused, and by which checks.
+    let expected: Vec<_> = openvdb()
+        .into_iter()
+        .filter(|(name, ..)| name == "refused.vdb")
+        .filter_map(|(.., said)| said.strip_prefix("refused ").map(String::from))
+        .collect();
+    let output = of(&[], "refused.vdb");
+    let text = out(&output);
+    let found: Vec<_> =
+        text.lines().filter_map(|line| Some(line.strip_prefix("  refused ")?.trim().split(':').next()?.to_string())).collect();
+    assert_eq!(found, expected);
+    assert!(!err(&output).contains(": refused "));
+    let output = of(&[], "stream.vdb");
+    assert_eq!((out(&output).as_str(), err(&output).matches(": refused ").count()), ("", 1));
+    // A sequence of packed frames has the advice once.
+    let frames = program().arg("--brief").args([cloud("refused.vdb"), cloud("refused.vdb")]).output().unwrap();
+    assert_eq!(err(&frames).matches("vdb_tool -read '").count(), 1);
+}
+
+#[test]
+fn voxels_without_root_tiles_say_so() {
+    // tools/openvdb/make_clouds.cc: one voxel, a cube of 128, two root tiles, one of them active; OpenVDB wrote file_voxel_count.
+    let text = out(&of(&[], "several.vdb"));
+    let voxels: Vec<_> = grids(&text).into_iter().map(|part| field(part, "voxels")).collect();
+    assert_eq!(voxels[1], "2,097,153 active");
+    assert_eq!(voxels[3], "2,097,153 active, without root tiles (2); file_voxel_count is 68,721,573,889");
+    assert_eq!(voxels[4], "0 active, without root tiles (1); file_voxel_count is 68,719,476,736");
+    let grid = json::one(&out(&of(&["--json"], "several.vdb"))).get("grids").items()[3].clone();
+    assert_eq!(["voxels", "root_tiles", "file_voxel_count"].map(|key| grid.get(key).word()), ["2097153", "2", "68721573889"]);
+    // The same cube and voxel with another number in the entry, and a file without the entry.
+    let mut file = read("fog_active.vdb");
+    let at = file.windows(8).position(|bytes| bytes == 6294026i64.to_le_bytes()).unwrap();
+    for (said, shown) in [(7i64, "7"), (-1, "-1"), (6294027, "6,294,027")] {
+        file[at..at + 8].copy_from_slice(&said.to_le_bytes());
+        let file = Kept::new(&format!("voxels-{said}"), &file);
+        assert_eq!(field(&out(&run(&[&file.0])), "voxels"), format!("6,294,026 active; file_voxel_count is {shown}"));
+    }
+    let a = out(&fed(&["--json", "-"], &case_a()));
+    assert_eq!(json::one(&a).get("grids").items()[0].get("file_voxel_count").word(), "null");
+}
+
+#[test]
+fn voxels_are_those_that_openvdb_counted() {
+    // Where there is no root tile, the entry that OpenVDB wrote is the number of voxels that the list covers.
+    let mut compared = 0;
+    for (name, number, expected) in openvdb() {
+        let Some(number) = number.filter(|_| !expected.starts_with("refused")) else { continue };
+        let grid = json::one(&out(&of(&["--json"], &name))).get("grids").items()[number as usize].clone();
+        if grid.get("root_tiles").word() == "0" {
+            assert_eq!(grid.get("voxels"), grid.get("file_voxel_count"), "{name} {number}");
+            compared += 1;
+        }
+    }
+    assert_eq!(compared, 22);
 }

@@ -1,6 +1,8 @@
 //! The files of the tests.
 #![allow(dead_code)]
 
+pub mod json;
+
 use std::fs;
 use std::path::{Path, PathBuf};
 

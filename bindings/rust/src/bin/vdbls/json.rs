@@ -1,6 +1,8 @@
 //! Values as JSON.
 
+use crate::words;
 use std::fmt::Write;
+use wuraiko::ParseError;
 
 /// A string of JSON; bytes that are no UTF-8 become an object with their hexadecimal digits.
 pub fn text(bytes: &[u8]) -> String {
@@ -33,9 +35,11 @@ pub fn double(value: f64) -> String {
     }
 }
 
-/// A float as the shortest number that reads back as the same float.
-pub fn float(value: f32) -> String {
-    if value.is_finite() {
+/// A float as the shortest number that reads back as the same float, or by its bits.
+pub fn float(value: f32, hex: bool) -> String {
+    if hex {
+        format!("\"{:08x}\"", value.to_bits())
+    } else if value.is_finite() {
         format!("{value:?}")
     } else {
         format!("\"{value}\"")
@@ -48,4 +52,9 @@ pub fn vector(values: [f64; 3]) -> String {
 
 pub fn corner([x, y, z]: [i32; 3]) -> String {
     format!("[{x}, {y}, {z}]")
+}
+
+/// The keys of a refusal.
+pub fn refusal(e: ParseError) -> String {
+    format!("\"refused\": {}, \"why\": {}", e.number(), text(words(e).as_bytes()))
 }

@@ -1,56 +1,53 @@
-//! vdbls: what is in an OpenVDB file, as the proved reader sees it.
+//! vdbls: what is in OpenVDB files, as the proved reader sees it.
 #![deny(unsafe_code)]
 
+mod brief;
 mod bytes;
+mod call;
 mod json;
 mod progress;
 mod records;
 mod show;
 mod survey;
 
-use std::collections::BTreeSet;
-use std::ffi::OsString;
+use call::{is_input, Asked, Call};
+use std::collections::BTreeMap;
+use std::ffi::OsStr;
 use std::io::{self, BufWriter, ErrorKind, Write};
 use std::process::ExitCode;
 use wuraiko::{Grid, ParseError, VdbReader};
 
-const HELP: &str = "\
-vdbls: what is in an OpenVDB file, as the proved reader sees it
+/// It has the keys of the JSON too, and the tests compare these with the output.
+const HELP: &str = include_str!("help.txt");
 
-usage: vdbls [--json] FILE
-       vdbls [--json] --records GRID FILE
-
-Without --records: the header, the file's metadata, and each grid with its type,
-transform, background, active records, range of their values, leaves, box (from
-its lowest to its highest voxel) and metadata.
-
-With --records: the active list of one grid, in the order of the file. The first
-line is `records N`; each record is a line of x, y, z and level in decimal and the
-value's bits as eight hexadecimal digits. Levels 0, 1, 2 are cubes of 1, 8, 128
-voxels a side; x, y, z is the lowest corner. Active tiles of the root, cubes of 4096,
-are not listed and not counted. GRID is the grid's name, or, if no grid has that
-name, its number from 0.
-
-  --json     the same as JSON
-  --help     this text
-
-Read are float grids of file versions 220 to 224 with unpacked values. Exit status:
-0; 1 if the file or a grid is refused; 2 for a wrong call or a file that cannot be
-read.
-";
-
-/// Why the program ends without having done all.
+/// Why a file was not listed.
 pub enum Failure {
-    Usage(String),
-    Input(String),
-    /// What was refused, each with its check.
-    Refused(Vec<(String, ParseError)>),
+    Unreadable(io::Error),
+    Refused(ParseError),
+    /// The grid that was asked for.
+    RefusedGrid(ParseError),
+    /// Grids of a file that is listed; the listing tells which.
+    InListing(Vec<ParseError>),
+    /// A walk from an opened grid's place is never refused, unless another program changes the file or the library is newer than this program.
+    Walk(ParseError),
     Output(io::Error),
 }
 
 impl Failure {
-    pub fn refused(what: String, e: ParseError) -> Self {
-        Self::Refused(vec![(what, e)])
+    pub fn of_grids(refusals: Vec<ParseError>) -> Result<(), Self> {
+        if refusals.is_empty() {
+            Ok(())
+        } else {
+            Err(Self::InListing(refusals))
+        }
+    }
+
+    fn refusals(&self) -> &[ParseError] {
+        match self {
+            Self::Refused(e) | Self::RefusedGrid(e) => std::slice::from_ref(e),
+            Self::InListing(refusals) => refusals,
+            Self::Unreadable(_) | Self::Walk(_) | Self::Output(_) => &[],
+        }
     }
 }
 
@@ -58,29 +55,6 @@ impl From<io::Error> for Failure {
     fn from(e: io::Error) -> Self {
         Self::Output(e)
     }
-}
-
-/// What the command line asks for.
-struct Call {
-    json: bool,
-    records: Option<OsString>,
-    path: OsString,
-}
-
-fn parse(mut arguments: impl Iterator<Item = OsString>) -> Result<Option<Call>, String> {
-    let (mut json, mut records, mut path, mut options) = (false, None, None, true);
-    while let Some(argument) = arguments.next() {
-        match argument.to_str() {
-            Some("--help" | "-h") if options => return Ok(None),
-            Some("--json") if options => json = true,
-            Some("--records") if options => records = Some(arguments.next().ok_or("--records needs a grid")?),
-            Some("--") if options => options = false,
-            Some(word) if options && word.starts_with('-') => return Err(format!("there is no option {word}")),
-            _ if path.is_some() => return Err("one file at a time".into()),
-            _ => path = Some(argument),
-        }
-    }
-    Ok(Some(Call { json, records, path: path.ok_or("no file is named")? }))
 }
 
 /// The grid of this name, else the one with this number.
@@ -92,41 +66,61 @@ fn find<'f>(reader: &VdbReader<'f>, asked: &[u8]) -> Result<Grid<'f>, ParseError
     }
 }
 
-fn run(call: &Call, out: &mut impl Write) -> Result<(), Failure> {
-    let path = shown(&call.path);
-    progress::allow(call.json || call.records.is_some());
-    let file = bytes::of_file(call.path.as_ref()).map_err(|e| Failure::Input(format!("{path}: {e}")))?;
-    let reader = match VdbReader::new(file) {
-        Ok(reader) => reader,
-        Err(e) => return refused(call, &path, e, "", out),
-    };
+/// How a file is called in a text.
+fn name(path: &OsStr) -> String {
+    if is_input(path) {
+        "standard input".into()
+    } else {
+        call::shown(path)
+    }
+}
+
+/// Lists one file; `first` says that it is the first one.
+fn list(call: &Call, path: &OsStr, first: bool, out: &mut impl Write) -> Result<(), Failure> {
+    let bytes = if is_input(path) { bytes::of_input() } else { bytes::of_file(path.as_ref()) }.map_err(Failure::Unreadable)?;
+    let reader = VdbReader::new(&bytes).map_err(Failure::Refused)?;
+    if call.brief {
+        return brief::line(path, &name(path), &bytes, &reader, call.form.json, out);
+    }
     let Some(asked) = &call.records else {
-        return show::file(&path, file, &reader, call.json, out);
+        if !first && !call.form.json {
+            writeln!(out)?;
+        }
+        return show::file(path, &bytes, &reader, call.form, out);
     };
-    let what = format!("{path}: grid {}", show::quoted(asked.as_encoded_bytes()));
-    let in_json = format!("\"grid\": {}, ", json::text(asked.as_encoded_bytes()));
-    progress::opening(file);
+    progress::opening(&bytes);
     let grid = find(&reader, asked.as_encoded_bytes());
     progress::clear();
-    match grid {
-        Ok(grid) => records::write(&what, &grid, call.json, out),
-        Err(e) => refused(call, &what, e, &in_json, out),
+    records::write(path, &grid.map_err(Failure::RefusedGrid)?, call.form, out)
+}
+
+/// Says why a file was not listed, once: with --json or --brief each file has its value or line in the output, else it goes to standard error.
+fn tell(call: &Call, path: &OsStr, failure: &Failure, out: &mut impl Write) -> io::Result<()> {
+    let asked = call.records.as_deref().unwrap_or_default().as_encoded_bytes();
+    let refused = |e: &ParseError| format!("refused {}: {}", e.number(), words(*e));
+    let (text, in_json) = match failure {
+        Failure::Unreadable(e) => (e.to_string(), format!("\"error\": {}", json::text(e.to_string().as_bytes()))),
+        Failure::Refused(e) => (refused(e), json::refusal(*e)),
+        Failure::RefusedGrid(e) => {
+            (format!("grid {}: {}", show::quoted(asked), refused(e)), format!("\"grid\": {}, {}", json::text(asked), json::refusal(*e)))
+        }
+        Failure::Walk(e) => return complain(&format!("vdbls: {}: the walk was {}\n", name(path), refused(e)), out),
+        Failure::InListing(_) | Failure::Output(_) => return Ok(()),
+    };
+    match (call.form.json, call.brief) {
+        (true, _) => writeln!(out, "{{\"file\": {}, {in_json}}}", json::text(path.as_encoded_bytes())),
+        (false, true) => writeln!(out, "{}: {text}", name(path)),
+        (false, false) => complain(&format!("vdbls: {}: {text}\n", name(path)), out),
     }
 }
 
-/// The refusal of all that was asked for; with --json it is also the output, which names the grid if one was asked for.
-fn refused(call: &Call, what: &str, e: ParseError, grid: &str, out: &mut impl Write) -> Result<(), Failure> {
-    if call.json {
-        let path = json::text(call.path.as_encoded_bytes());
-        writeln!(out, "{{\"file\": {path}, {grid}\"refused\": {}, \"why\": {}}}", e.number(), json::text(words(e).as_bytes()))?;
-    }
-    Err(Failure::refused(what.to_string(), e))
-}
-
-/// A path without the characters that a terminal would obey.
-fn shown(path: &OsString) -> String {
-    let escape = |c: char| if c.is_control() { c.escape_default().collect() } else { String::from(c) };
-    path.to_string_lossy().chars().map(escape).collect()
+/// Writes to standard error, behind what was found before.
+fn complain(what: &str, out: &mut impl Write) -> io::Result<()> {
+    out.flush()?;
+    progress::clear();
+    // Where standard error is closed, the exit status still tells.
+    let _ = io::stderr().write_all(what.as_bytes());
+    Ok(())
 }
 
 /// A refusal in words. This program asks for grids, and for no entry that it has not seen.
@@ -154,36 +148,52 @@ It keeps the grids' values, transforms and metadata, sorts them by falling name 
     }
 }
 
-/// What went wrong, for standard error, and the exit status.
-fn report(failure: Failure, path: &str) -> (String, u8) {
-    match failure {
-        // The reader of the output has seen enough.
-        Failure::Output(e) if e.kind() == ErrorKind::BrokenPipe => (String::new(), 0),
-        Failure::Output(e) => (format!("vdbls: cannot write: {e}\n"), 2),
-        Failure::Usage(what) => (format!("vdbls: {what}; `vdbls --help` tells more\n"), 2),
-        Failure::Input(what) => (format!("vdbls: {what}\n"), 2),
-        Failure::Refused(refusals) => {
-            let line = |(what, e): &(String, ParseError)| format!("vdbls: {what}: refused {}: {}\n", e.number(), words(*e));
-            let advised: BTreeSet<_> = refusals.iter().filter_map(|(_, e)| advice(*e, path)).collect();
-            let said: String = refusals.iter().map(line).chain(advised.iter().map(|advice| format!("{advice}\n"))).collect();
-            (said, 1)
+/// Lists the files, also behind one that is not listed; gives whether all were listed.
+fn files(call: &Call, out: &mut impl Write) -> io::Result<bool> {
+    progress::allow(call.form.json || call.records.is_some());
+    // Each advice once, with the first file that it is for: a sequence of frames has the same trouble in each.
+    let (mut all, mut advised) = (true, BTreeMap::new());
+    for (n, path) in call.files.iter().enumerate() {
+        let Err(failure) = list(call, path, n == 0, out) else { continue };
+        progress::clear();
+        all = false;
+        for e in failure.refusals() {
+            let file = if is_input(path) { "FILE".into() } else { call::shown(path) };
+            if let (Some(key), Some(advice)) = (advice(*e, ""), advice(*e, &file)) {
+                advised.entry(key).or_insert(advice);
+            }
+        }
+        match failure {
+            Failure::Output(e) => return Err(e),
+            failure => tell(call, path, &failure, out)?,
         }
     }
+    // JSON goes to programs.
+    if !call.form.json && !advised.is_empty() {
+        let said: String = advised.values().map(|advice| format!("{advice}\n")).collect();
+        complain(&said, out)?;
+    }
+    Ok(all)
 }
 
 fn main() -> ExitCode {
     let mut out = BufWriter::with_capacity(1 << 16, io::stdout().lock());
-    let (answer, path) = match parse(std::env::args_os().skip(1)) {
-        Err(what) => (Err(Failure::Usage(what)), String::new()),
-        Ok(None) => (out.write_all(HELP.as_bytes()).map_err(Failure::from), String::new()),
-        Ok(Some(call)) => (run(&call, &mut out), shown(&call.path)),
+    let done = match call::parse(std::env::args_os().skip(1)) {
+        Err(what) => {
+            let _ = complain(&format!("vdbls: {what}; `vdbls --help` tells more\n"), &mut out);
+            return ExitCode::from(2);
+        }
+        Ok(Asked::Help) => out.write_all(HELP.as_bytes()).map(|()| true),
+        Ok(Asked::Version) => out.write_all(concat!("vdbls ", env!("CARGO_PKG_VERSION"), "\n").as_bytes()).map(|()| true),
+        Ok(Asked::Files(call)) => files(&call, &mut out),
     };
-    // What was found before a refusal is written before the refusal is reported.
-    let written = out.flush().map_err(Failure::from);
-    let Err(failure) = answer.and(written) else { return ExitCode::SUCCESS };
-    progress::clear();
-    let (said, status) = report(failure, &path);
-    // Where standard error is closed, the status still tells.
-    let _ = io::stderr().write_all(said.as_bytes());
-    ExitCode::from(status)
+    match done.and_then(|all| out.flush().map(|()| all)) {
+        Ok(all) => ExitCode::from(u8::from(!all)),
+        // The reader of the output has seen enough.
+        Err(e) if e.kind() == ErrorKind::BrokenPipe => ExitCode::SUCCESS,
+        Err(e) => {
+            let _ = io::stderr().write_all(format!("vdbls: cannot write: {e}\n").as_bytes());
+            ExitCode::FAILURE
+        }
+    }
 }

@@ -1,7 +1,9 @@
 //! The active list of a grid.
 
+use crate::call::Form;
 use crate::progress::Progress;
-use crate::{json, Failure};
+use crate::{json, show, Failure};
+use std::ffi::OsStr;
 use std::io::Write;
 use wuraiko::Grid;
 
@@ -15,15 +17,14 @@ pub struct Record {
 /// How many records are taken at a time.
 const SLOTS: usize = 4096;
 
-/// Calls `each` for every record of the grid's active list; `what` names the grid in a refusal.
-pub fn for_each(what: &str, grid: &Grid, mut each: impl FnMut(Record) -> Result<(), Failure>) -> Result<(), Failure> {
+/// Calls `each` for every record of the grid's active list.
+pub fn for_each(grid: &Grid, mut each: impl FnMut(Record) -> Result<(), Failure>) -> Result<(), Failure> {
     let (mut x, mut y, mut z) = ([0; SLOTS], [0; SLOTS], [0; SLOTS]);
     let (mut level, mut value) = ([0; SLOTS], [0; SLOTS]);
     let mut progress = Progress::new(grid.active_count());
     let mut place = grid.place();
     loop {
-        let walked = grid.walk(&mut place, &mut x, &mut y, &mut z, &mut level, &mut value);
-        let walked = walked.map_err(|e| Failure::refused(what.to_string(), e))?;
+        let walked = grid.walk(&mut place, &mut x, &mut y, &mut z, &mut level, &mut value).map_err(Failure::Walk)?;
         for i in 0..walked.filled {
             each(Record { corner: [x[i], y[i], z[i]], level: level[i], value: value[i] })?;
         }
@@ -34,16 +35,20 @@ pub fn for_each(what: &str, grid: &Grid, mut each: impl FnMut(Record) -> Result<
     }
 }
 
-/// Writes the list, as the listing program does or as JSON.
-pub fn write(what: &str, grid: &Grid, as_json: bool, out: &mut impl Write) -> Result<(), Failure> {
-    if !as_json {
+/// Writes the list, by `--hex` as the listing program does, or as JSON.
+pub fn write(path: &OsStr, grid: &Grid, form: Form, out: &mut impl Write) -> Result<(), Failure> {
+    if !form.json {
         writeln!(out, "records {}", grid.active_count())?;
-        return for_each(what, grid, |Record { corner: [x, y, z], level, value }| Ok(writeln!(out, "{x} {y} {z} {level} {value:08x}")?));
+        return for_each(grid, |Record { corner: [x, y, z], level, value }| {
+            let value = show::float(f32::from_bits(value), form.hex);
+            Ok(writeln!(out, "{x} {y} {z} {level} {value}")?)
+        });
     }
-    write!(out, "{{\"grid\": {}, \"records\": {}, \"list\": [", json::text(grid.descriptor.name), grid.active_count())?;
+    let (path, name) = (json::text(path.as_encoded_bytes()), json::text(grid.descriptor.name));
+    write!(out, "{{\"file\": {path}, \"grid\": {name}, \"records\": {}, \"list\": [", grid.active_count())?;
     let mut before = "\n";
-    for_each(what, grid, |Record { corner: [x, y, z], level, value }| {
-        write!(out, "{before}[{x}, {y}, {z}, {level}, \"{value:08x}\"]")?;
+    for_each(grid, |Record { corner: [x, y, z], level, value }| {
+        write!(out, "{before}[{x}, {y}, {z}, {level}, {}]", json::float(f32::from_bits(value), form.hex))?;
         before = ",\n";
         Ok(())
     })?;

@@ -1,8 +1,10 @@
 //! A whole file: its header, its metadata, its grids.
 
+use crate::call::Form;
 use crate::survey::Survey;
-use crate::{json, progress, words, Failure};
+use crate::{json, name, progress, words, Failure};
 use std::collections::HashSet;
+use std::ffi::OsStr;
 use std::io::{self, Write};
 use wuraiko::{Compression, Grid, GridDescriptor, Map, Metadata, MetadataValue, ParseError, VdbReader};
 
@@ -34,6 +36,15 @@ pub fn grouped(n: u64) -> String {
     text
 }
 
+/// A float as the shortest decimal that reads back as the same float, or by its bits.
+pub fn float(value: f32, hex: bool) -> String {
+    if hex {
+        format!("{:08x}", value.to_bits())
+    } else {
+        format!("{value:?}")
+    }
+}
+
 /// How many entries are shown: each one is asked for by its name, which takes a look at all of them.
 const MOST: usize = 1000;
 
@@ -52,62 +63,55 @@ struct Found<'f> {
     survey: Survey,
 }
 
-fn find<'f>(what: &str, reader: &VdbReader<'f>, n: u32) -> Result<Result<Found<'f>, ParseError>, Failure> {
+fn find<'f>(reader: &VdbReader<'f>, n: u32) -> Result<Result<Found<'f>, ParseError>, Failure> {
     let opened = reader.read_grid_numbered(n);
     progress::clear();
     match opened {
         Err(e) => Ok(Err(e)),
-        Ok(grid) => Ok(Ok(Found { grid, survey: Survey::new(what, &grid)? })),
+        Ok(grid) => Ok(Ok(Found { grid, survey: Survey::new(&grid)? })),
     }
 }
 
 /// Shows the file, all of its grids, also behind one that is refused.
-pub fn file(path: &str, bytes: &[u8], reader: &VdbReader, as_json: bool, out: &mut impl Write) -> Result<(), Failure> {
+pub fn file(path: &OsStr, bytes: &[u8], reader: &VdbReader, form: Form, out: &mut impl Write) -> Result<(), Failure> {
     let mut refusals = Vec::new();
-    if as_json {
-        json_head(path, bytes, reader, out)?;
+    if form.json {
+        json_head(path, bytes, reader, form, out)?;
     } else {
-        text_head(path, bytes, reader, out)?;
+        text_head(path, bytes, reader, form, out)?;
     }
     for (n, descriptor) in (0..).zip(reader.grid_descriptors()) {
         // What is known is shown while the grid is read.
         out.flush()?;
-        let what = format!("{path}: grid {}", quoted(descriptor.name));
         progress::opening(bytes);
-        let found = find(&what, reader, n)?;
-        if as_json {
+        let found = find(reader, n)?;
+        if form.json {
             out.write_all(if n == 0 { b"\n" } else { b",\n" })?;
-            json_grid(&descriptor, &found, out)?;
+            json_grid(&descriptor, &found, form, out)?;
         } else {
-            text_grid(n, &descriptor, &found, out)?;
+            text_grid(n, &descriptor, &found, form, out)?;
         }
-        if let Err(e) = found {
-            refusals.push((what, e));
-        }
+        refusals.extend(found.err());
     }
-    if as_json {
+    if form.json {
         out.write_all(b"\n]}\n")?;
     }
-    if refusals.is_empty() {
-        Ok(())
-    } else {
-        Err(Failure::Refused(refusals))
-    }
+    Failure::of_grids(refusals)
 }
 
-fn text_head(path: &str, bytes: &[u8], reader: &VdbReader, out: &mut impl Write) -> io::Result<()> {
+fn text_head(path: &OsStr, bytes: &[u8], reader: &VdbReader, form: Form, out: &mut impl Write) -> io::Result<()> {
     let h = &reader.header;
-    writeln!(out, "{path}: {} bytes", grouped(bytes.len() as u64))?;
+    writeln!(out, "{}: {} bytes", name(path), grouped(bytes.len() as u64))?;
     writeln!(out, "  version     {}, library {}.{}", h.file_version, h.library_version_major, h.library_version_minor)?;
     writeln!(out, "  identity    {}", quoted(h.guid))?;
     if h.packed {
         writeln!(out, "  packed      yes")?;
     }
     writeln!(out, "  grids       {}", h.grid_count)?;
-    text_metadata(&h.meta_data, out)
+    text_metadata(&h.meta_data, form, out)
 }
 
-fn text_metadata(metadata: &Metadata, out: &mut impl Write) -> io::Result<()> {
+fn text_metadata(metadata: &Metadata, form: Form, out: &mut impl Write) -> io::Result<()> {
     let (names, more) = names(metadata);
     if names.is_empty() {
         return writeln!(out, "  metadata    none");
@@ -115,9 +119,8 @@ fn text_metadata(metadata: &Metadata, out: &mut impl Write) -> io::Result<()> {
     writeln!(out, "  metadata")?;
     let width = names.iter().map(|name| quoted(name).chars().count()).max().unwrap_or(0).min(32);
     for name in names {
-        if let Ok(value) = metadata.get(name) {
-            writeln!(out, "    {:width$}  {}", quoted(name), text_value(value))?;
-        }
+        let value = metadata.get(name).map_or_else(|e| e.text().into(), |value| text_value(value, form.hex));
+        writeln!(out, "    {:width$}  {value}", quoted(name))?;
     }
     if more > 0 {
         writeln!(out, "    and {} more", grouped(more as u64))?;
@@ -126,18 +129,19 @@ fn text_metadata(metadata: &Metadata, out: &mut impl Write) -> io::Result<()> {
 }
 
 /// The kind and the value; of long raw values the first bytes.
-fn text_value(value: MetadataValue) -> String {
+fn text_value(value: MetadataValue, hex: bool) -> String {
     match value {
         MetadataValue::String(text) => format!("string  {}", quoted(text)),
         MetadataValue::Bool(value) => format!("bool    {value}"),
         MetadataValue::I32(n) => format!("int32   {n}"),
         MetadataValue::I64(n) => format!("int64   {n}"),
-        MetadataValue::Float(value) => format!("float   {value:?} ({:08x})", value.to_bits()),
+        MetadataValue::Float(value) => format!("float   {}", float(value, hex)),
         MetadataValue::Vec3i([x, y, z]) => format!("vec3i   {x} {y} {z}"),
         MetadataValue::Unknown { name, data } if data.len() > 16 => {
             format!("{}  {} bytes: {}..", quoted(name), data.len(), json::hex(&data[..16]))
         }
         MetadataValue::Unknown { name, data } => format!("{}  {} bytes: {}", quoted(name), data.len(), json::hex(data)),
+        _ => "of a kind that this program does not know".into(),
     }
 }
 
@@ -165,10 +169,25 @@ fn text_map(map: &Map) -> String {
         Map::ScaleTranslateMap { translation, scale_values, .. } => {
             format!("scale {}, translation {}", text_vector(*scale_values), text_vector(*translation))
         }
+        _ => "a map that this program does not know".into(),
     }
 }
 
-fn text_grid(n: u32, descriptor: &GridDescriptor, found: &Result<Found, ParseError>, out: &mut impl Write) -> io::Result<()> {
+/// How many voxels are active, what is not among them, and what the file says where that is another number.
+fn text_voxels(grid: &Grid, survey: &Survey) -> String {
+    let mut text = format!("{} active", grouped(survey.voxels()));
+    if grid.root_tile_count() > 0 {
+        text += &format!(", without root tiles ({})", grouped(grid.root_tile_count().into()));
+    }
+    match grid.descriptor.voxel_count().map(|said| u64::try_from(said).map_err(|_| said)) {
+        Some(Ok(said)) if said != survey.voxels() => text += &format!("; file_voxel_count is {}", grouped(said)),
+        Some(Err(negative)) => text += &format!("; file_voxel_count is {negative}"),
+        _ => (),
+    }
+    text
+}
+
+fn text_grid(n: u32, descriptor: &GridDescriptor, found: &Result<Found, ParseError>, form: Form, out: &mut impl Write) -> io::Result<()> {
     writeln!(out, "\ngrid {n}: {}", quoted(descriptor.name))?;
     writeln!(out, "  type        {}", quoted(descriptor.grid_type).trim_matches('"'))?;
     if !descriptor.instance_parent.is_empty() {
@@ -180,11 +199,11 @@ fn text_grid(n: u32, descriptor: &GridDescriptor, found: &Result<Found, ParseErr
         Ok(Found { grid, survey }) => {
             let [voxels, eights, big] = survey.levels.map(grouped);
             writeln!(out, "  transform   {}", text_map(&grid.transform))?;
-            writeln!(out, "  background  {:?} ({:08x})", grid.background(), grid.background().to_bits())?;
+            writeln!(out, "  background  {}", float(grid.background(), form.hex))?;
             writeln!(out, "  records     {}: {voxels} of side 1, {eights} of side 8, {big} of side 128", grouped(grid.active_count()))?;
-            writeln!(out, "  voxels      {} active", grouped(survey.voxels()))?;
+            writeln!(out, "  voxels      {}", text_voxels(grid, survey))?;
             if let Some((least, most)) = survey.values {
-                writeln!(out, "  values      {least:?} to {most:?}")?;
+                writeln!(out, "  values      {} to {}", float(least, form.hex), float(most, form.hex))?;
             }
             writeln!(out, "  leaves      {}", grouped(grid.leaf_count()))?;
             match survey.corners {
@@ -193,43 +212,49 @@ fn text_grid(n: u32, descriptor: &GridDescriptor, found: &Result<Found, ParseErr
             }
         }
     }
-    text_metadata(&descriptor.meta_data, out)
+    text_metadata(&descriptor.meta_data, form, out)
 }
 
-fn json_head(path: &str, bytes: &[u8], reader: &VdbReader, out: &mut impl Write) -> io::Result<()> {
+fn json_head(path: &OsStr, bytes: &[u8], reader: &VdbReader, form: Form, out: &mut impl Write) -> io::Result<()> {
     let h = &reader.header;
-    writeln!(out, "{{\"file\": {}, \"bytes\": {},", json::text(path.as_bytes()), bytes.len())?;
+    writeln!(out, "{{\"file\": {}, \"bytes\": {},", json::text(path.as_encoded_bytes()), bytes.len())?;
     writeln!(out, " \"version\": {}, \"library\": [{}, {}],", h.file_version, h.library_version_major, h.library_version_minor)?;
     writeln!(out, " \"identity\": {}, \"packed\": {},", json::text(h.guid), h.packed)?;
-    writeln!(out, " \"metadata\": {},", json_metadata(&h.meta_data))?;
+    writeln!(out, " \"metadata\": {},", json_metadata(&h.meta_data, form))?;
     write!(out, " \"grids\": [")
 }
 
 /// A list of objects: names that are no UTF-8 cannot be keys.
-fn json_metadata(metadata: &Metadata) -> String {
+fn json_metadata(metadata: &Metadata, form: Form) -> String {
     let entry = |name: &[u8]| {
-        let (kind, value) = json_value(metadata.get(name).ok()?);
-        Some(format!("{{\"name\": {}, \"kind\": {kind}, \"value\": {value}}}", json::text(name)))
+        let (kind, value) = metadata.get(name).map_or_else(|_| json_unknown(), |value| json_value(value, form.hex));
+        format!("{{\"name\": {}, \"kind\": {kind}, \"value\": {value}}}", json::text(name))
     };
     let (names, more) = names(metadata);
-    let mut entries: Vec<_> = names.into_iter().filter_map(entry).collect();
+    let mut entries: Vec<_> = names.into_iter().map(entry).collect();
     if more > 0 {
         entries.push(format!("{{\"more\": {more}}}"));
     }
     format!("[{}]", entries.join(", "))
 }
 
-fn json_value(value: MetadataValue) -> (String, String) {
+fn json_value(value: MetadataValue, hex: bool) -> (String, String) {
     let kind = |name: &str| json::text(name.as_bytes());
     match value {
         MetadataValue::String(text) => (kind("string"), json::text(text)),
         MetadataValue::Bool(value) => (kind("bool"), value.to_string()),
         MetadataValue::I32(n) => (kind("int32"), n.to_string()),
         MetadataValue::I64(n) => (kind("int64"), n.to_string()),
-        MetadataValue::Float(value) => (kind("float"), json::float(value)),
+        MetadataValue::Float(value) => (kind("float"), json::float(value, hex)),
         MetadataValue::Vec3i(vector) => (kind("vec3i"), json::corner(vector)),
         MetadataValue::Unknown { name, data } => (json::text(name), format!("{{\"hex\": \"{}\"}}", json::hex(data))),
+        _ => json_unknown(),
     }
+}
+
+/// An entry of a kind that this program does not know.
+fn json_unknown() -> (String, String) {
+    ("null".into(), "null".into())
 }
 
 fn json_map(map: &Map) -> String {
@@ -238,27 +263,29 @@ fn json_map(map: &Map) -> String {
         Map::ScaleTranslateMap { translation, scale_values, .. } => {
             format!("{{\"scale\": {}, \"translation\": {}}}", json::vector(*scale_values), json::vector(*translation))
         }
+        _ => "null".into(),
     }
 }
 
-fn json_grid(descriptor: &GridDescriptor, found: &Result<Found, ParseError>, out: &mut impl Write) -> io::Result<()> {
+fn json_grid(descriptor: &GridDescriptor, found: &Result<Found, ParseError>, form: Form, out: &mut impl Write) -> io::Result<()> {
     write!(out, "  {{\"name\": {}, \"type\": {}", json::text(descriptor.name), json::text(descriptor.grid_type))?;
     write!(out, ", \"parent\": {}, \"flags\": {}", json::text(descriptor.instance_parent), descriptor.compression.bits())?;
     writeln!(out, ", \"half\": {},", descriptor.meta_data.is_half_float())?;
     match found {
-        Err(e) => writeln!(out, "   \"refused\": {}, \"why\": {},", e.number(), json::text(words(*e).as_bytes()))?,
-        Ok(Found { grid, survey }) => {
-            let background = grid.background();
-            write!(out, "   \"transform\": {}, \"background\": {}", json_map(&grid.transform), json::float(background))?;
-            writeln!(out, ", \"background_bits\": \"{:08x}\",", background.to_bits())?;
-            write!(out, "   \"records\": {}, \"levels\": {:?}", grid.active_count(), survey.levels)?;
-            let values = survey.values.map_or("null".into(), |(least, most)| format!("[{}, {}]", json::float(least), json::float(most)));
-            write!(out, ", \"voxels\": {}, \"values\": {values}, \"leaves\": {}, \"box\": ", survey.voxels(), grid.leaf_count())?;
-            match survey.corners {
-                None => writeln!(out, "null,")?,
-                Some((low, high)) => writeln!(out, "[{}, {}],", json::corner(low), json::corner(high))?,
-            }
-        }
+        Err(e) => writeln!(out, "   {},", json::refusal(*e))?,
+        Ok(found) => json_found(found, form.hex, out)?,
     }
-    write!(out, "   \"metadata\": {}}}", json_metadata(&descriptor.meta_data))
+    write!(out, "   \"metadata\": {}}}", json_metadata(&descriptor.meta_data, form))
+}
+
+fn json_found(Found { grid, survey }: &Found, hex: bool, out: &mut impl Write) -> io::Result<()> {
+    let null = || String::from("null");
+    writeln!(out, "   \"transform\": {}, \"background\": {},", json_map(&grid.transform), json::float(grid.background(), hex))?;
+    writeln!(out, "   \"records\": {}, \"levels\": {:?},", grid.active_count(), survey.levels)?;
+    let said = grid.descriptor.voxel_count().map_or_else(null, |said| said.to_string());
+    write!(out, "   \"voxels\": {}, \"root_tiles\": {}, \"file_voxel_count\": {said},", survey.voxels(), grid.root_tile_count())?;
+    let range = |(least, most)| format!("[{}, {}]", json::float(least, hex), json::float(most, hex));
+    let corners = |(low, high)| format!("[{}, {}]", json::corner(low), json::corner(high));
+    let (values, corners) = (survey.values.map_or_else(null, range), survey.corners.map_or_else(null, corners));
+    writeln!(out, " \"values\": {values},\n   \"leaves\": {}, \"box\": {corners},", grid.leaf_count())
 }

@@ -2,7 +2,7 @@
 
 use crate::records::for_each;
 use crate::Failure;
-use wuraiko::{Grid, VdbLevel};
+use wuraiko::{Grid, ParseError, VdbLevel};
 
 /// The records by level, the box around all their voxels, and the range of their values.
 #[derive(Default)]
@@ -15,10 +15,10 @@ pub struct Survey {
 }
 
 impl Survey {
-    pub fn new(what: &str, grid: &Grid) -> Result<Self, Failure> {
+    pub fn new(grid: &Grid) -> Result<Self, Failure> {
         let mut survey = Self::default();
-        for_each(what, grid, |record| {
-            let side = VdbLevel::from_number(record.level).map_or(1, VdbLevel::side);
+        for_each(grid, |record| {
+            let side = VdbLevel::from_number(record.level).ok_or(Failure::Walk(ParseError::UnknownAnswer))?.side();
             // The whole cube lies within i32: the tree's root does.
             let top = record.corner.map(|low| low.wrapping_add(side as i32 - 1));
             let (low, high) = survey.corners.get_or_insert((record.corner, top));
@@ -39,7 +39,7 @@ impl Survey {
         Ok(survey)
     }
 
-    /// How many voxels are active, root tiles apart.
+    /// How many voxels the list covers. Root tiles are not in it.
     pub fn voxels(&self) -> u64 {
         self.levels[0] + 512 * self.levels[1] + 2_097_152 * self.levels[2]
     }
