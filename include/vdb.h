@@ -23,6 +23,17 @@
 extern "C" {
 #endif
 
+/* ---- The layout ---- */
+
+/*
+ * The number of the layout of all that is lent: what the functions are given, the lengths of the arrays below, what their words mean, and the words of a
+ * place. A library with another number writes other words, and perhaps more of them than an array of this header has: lend it nothing. A program that
+ * may be linked with another library than the one that its header came with calls this once, before any other function. A place's words begin with the
+ * number, so that places kept by a library of another layout are refused (22).
+ */
+enum { VDB_LAYOUT = 1 };
+uint32_t vdb_layout(void);
+
 /* ---- The file ---- */
 
 /* The words of an opened file. */
@@ -58,7 +69,7 @@ enum {
     VDB_GRID_HALF,           /* the metadata entry is_saved_as_half_float: 2 where it is true, 1 where false, 0 where there is none or its kind is another */
     VDB_GRID_METADATA,       /* where the grid's metadata starts, and where what follows it starts */
     VDB_GRID_TREE,
-    VDB_GRID_WORDS
+    VDB_GRID_WORDS = 16      /* the last ones are 0 */
 };
 
 /* The descriptor of the grid of this name, or with this number from 0. Without such a grid the result is 11. */
@@ -92,10 +103,11 @@ enum {
     VDB_OPENED_BACKGROUND,   /* the background, a float's pattern */
     VDB_OPENED_ACTIVE_COUNT, /* how many records the active list has; active tiles of the root, cubes of 4096, are none of them */
     VDB_OPENED_LEAF_COUNT,   /* how many leaves there are; they are numbered from 0 */
+    VDB_OPENED_ROOT_TILES,   /* how many tiles the root has, active or not */
     VDB_OPENED_MAP,          /* which map the transform is, by the number of its doubles: VDB_SCALE or VDB_SCALE_TRANSLATE */
     VDB_OPENED_DOUBLES_AT,   /* where these stand in the file */
-    VDB_OPENED_DOUBLES,      /* and from here on their patterns, bit for bit; words past them are 0 */
-    VDB_OPENED_WORDS = VDB_OPENED_DOUBLES + 18
+    VDB_OPENED_DOUBLES,      /* and from here on their patterns, bit for bit, 18 at most; words past them are 0 */
+    VDB_OPENED_WORDS = 32
 };
 
 /*
@@ -106,9 +118,9 @@ enum { VDB_SCALE = 15, VDB_SCALE_TRANSLATE = 18 };
 
 /*
  * A place of a walk, as words for the caller to keep: in memory, or in a file, whose reader then goes on with the walk. It holds all that the walk
- * needs and goes with the bytes that its grid was opened from. Its words mean nothing to the caller.
+ * needs and goes with the bytes that its grid was opened from. But for the first one, VDB_LAYOUT, its words mean nothing to the caller.
  */
-enum { VDB_PLACE_WORDS = 35 };
+enum { VDB_PLACE_WORDS = 40 };
 
 /* Opens the grid of this name, or with this number from 0: all of it is checked. `place` is then the walk's place before its first record. */
 uint32_t vdb_open_grid_named(const uint8_t *file, size_t file_len, const uint8_t *name, size_t name_len, uint64_t out[VDB_OPENED_WORDS],
@@ -126,8 +138,10 @@ enum { VDB_FILLED, VDB_LEFT, VDB_WALK_COUNTS };
  * float's pattern. Slots past the filled ones keep their content. `place` is then the place behind these records.
  *
  * From the place of an opened grid on, each call given the place that the last one left, the calls hand out the whole active list, without gap or
- * repeat, and none is refused. Any other words are safe too: they give some records of these bytes, or 22. Where records are left and slots are lent, a
- * call that returns 0 fills one slot at least, and as many fewer are left. A word of a smaller field counts by its low 32 bits.
+ * repeat, and none is refused. Any other words are safe too. Words whose first one is not VDB_LAYOUT get 22. Others that no call over these bytes left get
+ * some records of these bytes, or 22, or, where by these words nothing is left, 0 filled. Where records are left and slots are lent, a call that returns
+ * 0 fills one slot at least, and as many fewer are left. Where no slots are lent, nothing is filled and nothing refused for its bytes, and the place is the
+ * same; but words that no call left may come back written otherwise, since a word of a smaller field counts by its low 32 bits, and the rest becomes 0.
  */
 uint32_t vdb_walk(const uint8_t *file, size_t file_len, uint64_t place[VDB_PLACE_WORDS], int32_t *x, size_t x_len, int32_t *y, size_t y_len, int32_t *z,
                   size_t z_len, uint32_t *level, size_t level_len, uint32_t *value, size_t value_len, uint64_t counts[VDB_WALK_COUNTS]);

@@ -1,8 +1,9 @@
-//! Finds the reader's static library, libvdb.a, and tests that it is for the target.
+//! Finds the reader's static library, libvdb.a, and tests that it is for the target and has the layout of this crate.
 
 use std::env;
-use std::path::PathBuf;
-use std::process::exit;
+use std::fs;
+use std::path::{Path, PathBuf};
+use std::process::{exit, Command};
 
 /// Why the library is not for a target of this architecture, system and pointer width, as cargo names them; none if it is.
 pub fn unfit(architecture: &str, system: &str, width: &str) -> Option<String> {
@@ -14,6 +15,27 @@ pub fn unfit(architecture: &str, system: &str, width: &str) -> Option<String> {
         "libvdb.a is for x86-64 Linux alone, and the target is {architecture} {system} with pointers of {width} bits.\n\
          Build with `--target x86_64-unknown-linux-gnu`; a machine with another processor runs such programs under an emulator only."
     ))
+}
+
+/// The layout that the crate is written for, by its own text.
+pub fn expected() -> &'static str {
+    let text = include_str!("src/sys.rs");
+    let number = text.split_once("pub const LAYOUT: u32 = ").and_then(|(_, rest)| rest.split_once(';'));
+    number.expect("src/sys.rs has the layout").0
+}
+
+/// The layout of the library in a folder, by a program that is linked with it and asks. None where such a program cannot be built or run, as when the
+/// target is not this machine; each call asks again.
+pub fn layout(folder: &Path, work: &Path) -> Option<String> {
+    let (source, program) = (work.join("layout.rs"), work.join("layout"));
+    let text = "extern \"C\" { fn vdb_layout() -> u32; }\nfn main() { println!(\"{}\", unsafe { vdb_layout() }); }\n";
+    fs::write(&source, text).ok()?;
+    let compiler = env::var_os("RUSTC").unwrap_or_else(|| "rustc".into());
+    let mut build = Command::new(compiler);
+    build.arg("--edition=2021").arg("-L").arg(folder).arg("-lstatic=vdb").arg("-o").arg(&program).arg(&source);
+    build.output().ok().filter(|built| built.status.success())?;
+    let said = Command::new(&program).output().ok().filter(|said| said.status.success())?;
+    Some(String::from_utf8_lossy(&said.stdout).trim().to_string())
 }
 
 fn main() {
@@ -37,6 +59,12 @@ fn main() {
         eprintln!("or set WURAIKO_LIB_DIR to the folder that holds libvdb.a.");
         exit(1);
     };
+    let work = PathBuf::from(env::var_os("OUT_DIR").expect("cargo sets OUT_DIR"));
+    if let Some(found) = layout(&folder, &work).filter(|found| found != expected()) {
+        eprintln!("{} has the layout {found}, and this crate is written for {}.", archive.display(), expected());
+        eprintln!("Build both from one state of the reader's repository.");
+        exit(1);
+    }
     println!("cargo:rustc-link-search=native={}", folder.display());
     println!("cargo:rustc-link-lib=static=vdb");
 }

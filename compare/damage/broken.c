@@ -45,6 +45,7 @@ uint32_t __wrap_vdb_walk(WALK)
     uint64_t kept[VDB_PLACE_WORDS];
     uint32_t k;
     memcpy(kept, place, sizeof kept);
+    if (broken(14)) place[0] = VDB_LAYOUT;                                                /* words of another layout are walked from */
     k = __real_vdb_walk(file, file_len, place, x, x_len, y, y_len, z, z_len, level, level_len, value, value_len, counts);
     if (broken(8) && k == 0 && counts[VDB_FILLED] < x_len) x[counts[VDB_FILLED]]++;       /* changes a slot past the filled ones */
     if (broken(9) && k == 0 && counts[VDB_LEFT] > 0) memcpy(place, kept, sizeof kept);    /* a later call repeats the records */

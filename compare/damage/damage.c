@@ -213,7 +213,7 @@ static void strange_walk(const uint64_t from[VDB_PLACE_WORDS])
         some_lengths(len, below(8) == 0 ? 20000 : 40);
         k = walk(&s, place, len);
         strange_walks++, strange_refused += k == 22;
-        HOLD(k == 0 || k == 22);
+        HOLD(k == 22 || (k == 0 && place[0] == VDB_LAYOUT));
         if (k != 0) return;
         memcpy(place, s.place, sizeof place);
     }
@@ -240,6 +240,7 @@ static void strange_walks_from(const uint64_t place[VDB_PLACE_WORDS])
             uint64_t *word = &other[below(VDB_PLACE_WORDS)];
             *word = strange_word(*word);
         }
+        if (below(8) != 0) other[0] = VDB_LAYOUT; /* words of another layout are refused before they are looked at */
         strange_walk(other);
     }
 }

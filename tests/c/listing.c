@@ -72,6 +72,7 @@ int main(int count, char **argument)
     struct bytes file;
     uint32_t k;
 
+    if (vdb_layout() != VDB_LAYOUT) stop("the library has another layout than vdb.h");
     if (count < 2 || count > 4) stop("usage: listing FILE [PLACE | - OTHER]");
     file = load(argument[1]);
     k = vdb_open_grid_numbered(file.at, file.len, 0, opened, place);

@@ -191,6 +191,21 @@ static uint64_t left_at(uint64_t place[VDB_PLACE_WORDS])
     return counts[VDB_LEFT];
 }
 
+/* Words of another layout are no place: 22, with slots and without, and nothing is changed. */
+static void walk_of_another_layout(const uint64_t words[VDB_PLACE_WORDS])
+{
+    for (size_t slots = 0; slots < 3; slots++) {
+        uint64_t place[VDB_PLACE_WORDS], counts[VDB_WALK_COUNTS] = {5, 5};
+        int32_t x[2] = {5, 5}, y[2] = {5, 5}, z[2] = {5, 5};
+        uint32_t level[2] = {5, 5}, value[2] = {5, 5};
+        memcpy(place, words, sizeof place);
+        if (vdb_walk(file, file_len, place, x, slots, y, slots, z, slots, level, slots, value, slots, counts) != 22) stop("words of another layout are a place");
+        for (size_t i = 0; i < 2; i++)
+            if (x[i] != 5 || y[i] != 5 || z[i] != 5 || level[i] != 5 || value[i] != 5 || counts[i] != 5) stop("words of another layout change something");
+        if (memcmp(place, words, sizeof place) != 0) stop("words of another layout are changed");
+    }
+}
+
 /* A place with one word changed is safe: some records, so many fewer left and one at least where any are, or 22, and then nothing is changed. */
 static void walk_from_anywhere(const uint64_t fresh[VDB_PLACE_WORDS])
 {
@@ -202,6 +217,10 @@ static void walk_from_anywhere(const uint64_t fresh[VDB_PLACE_WORDS])
         uint64_t left;
         memcpy(place, fresh, sizeof place);
         place[i / 8] = strange[i % 8];
+        if (place[0] != VDB_LAYOUT) {
+            walk_of_another_layout(place);
+            continue;
+        }
         left = left_at(place);
         memcpy(before, place, sizeof place);
         k = vdb_walk(file, file_len, place, x, 3, y, 3, z, 3, level, 3, value, 3, counts);

@@ -3,20 +3,21 @@
 
     signatures.py [ROOT]    ROOT is the repository, if it is not the one of this file; exit status 1 where something differs
 
-Compared are crates/vdb/src/lib.rt, include/vdb.h and bindings/rust/src/sys.rs:
+Compared are crates/vdb/src/lib.rt, include/vdb.h, bindings/rust/src/sys.rs and crates/words/src/lib.rt:
 
 - the functions, and of each the names, order and types of its parameters. A slice crosses as a pointer and a length, `&mut [u64; N]` as an array of N
   words, in the header of as many as a constant there says. sys.rs may leave functions out;
 - the constants of sys.rs, which are the header's without VDB_;
+- the number of the layout, which crates/words/src/lib.rt says too; and that each function of sys.rs asks for it before it calls another one;
 - the arguments that sys.rs hands over: each pointer before its own length, each array with the constant that the header has.
 
-Then faults are put into copies of the three texts, one at a time: each must be noticed.
+Then faults are put into copies of these texts, one at a time: each must be noticed.
 """
 import pathlib
 import re
 import sys
 
-LIBRARY, HEADER, RUST = 'crates/vdb/src/lib.rt', 'include/vdb.h', 'bindings/rust/src/sys.rs'
+LIBRARY, HEADER, RUST, WORDS = 'crates/vdb/src/lib.rt', 'include/vdb.h', 'bindings/rust/src/sys.rs', 'crates/words/src/lib.rt'
 # Names that the header has in place of the library's and of the Rust's own.
 IN_LIBRARY, IN_RUST = {'s': 'file', 'number': 'leaf'}, {'len': 'file_len'}
 C_TYPES = {'uint8_t': 'u8', 'uint32_t': 'u32', 'uint64_t': 'u64', 'int32_t': 'i32', 'size_t': 'usize'}
@@ -58,7 +59,7 @@ def of_library(text):
     found = []
     for name, given, result in re.findall(r'#\[no_mangle\]\s*pub extern "C" fn (\w+)\s*\(([^)]*)\)\s*->\s*(\w+)', text):
         crossing = []
-        for parameter in re.split(r',\s*(?=\w+\s*:)', given.strip().rstrip(',')):
+        for parameter in filter(None, re.split(r',\s*(?=\w+\s*:)', given.strip().rstrip(','))):
             own, reference, changed, element, length, plain = taken(
                 r'(\w+): (?:(&)(mut )?\[(\w+)(?:; (\d+))?\]|(\w+))', parameter, LIBRARY, name)
             called = IN_LIBRARY.get(own, own)
@@ -93,7 +94,7 @@ def of_header(text):
     numbers, found, lengths = constants(text), [], {}
     for result, name, given in re.findall(r'(\w+)\s+(\w+)\s*\(([^)]*)\)\s*;', text):
         crossing = []
-        for parameter in parts(given):
+        for parameter in parts(given.replace('void', '')):
             constant, kind, pointer, called, length = taken(r'(const )?(\w+) ?(\*)? ?(\w+)(?:\[(\w+)\])?', parameter, HEADER, name)
             must(kind in C_TYPES, HEADER, name, called, 'is of an unknown type')
             shape = '' if not pointer and not length else '*const ' if constant else '*mut '
@@ -127,14 +128,17 @@ def resolved(argument, short):
 def handed_over(text, header, lengths):
     """Which functions sys.rs calls; each argument must be what the header has at its place."""
     called = set()
-    for whole in re.findall(r'^pub fn .*?^\}', text, flags=re.DOTALL | re.MULTILINE):
+    for whole in re.findall(r'^(?:pub )?fn .*?^\}', text, flags=re.DOTALL | re.MULTILINE):
         held = dict(re.findall(r'(\w+): &mut \[u64; (\w+)\]', whole))
         short = {}
         for names, values in re.findall(r'let \(([^()]*)\) = \((.*?)\);', whole):
             short.update(zip(parts(names.replace('mut ', '')), parts(values)))
         for name, value in [*re.findall(r'let mut (\w+) = (\[0; \w+\]);', whole), *short.items()]:
             held.update({name: constant for constant in re.findall(r'^\[0; (\w+)\]$', value)})
-        for name, given in re.findall(r'c::(\w+)\(((?:[^()]|\(\))*)\)', whole):
+        calls = re.findall(r'c::(\w+)\(((?:[^()]|\(\))*)\)', whole)
+        asks = re.search(r'\{\n    same_layout\(\)\?;\n', whole)
+        must(asks or all(name == 'vdb_layout' for name, _ in calls), RUST, 'calls before it asks for the layout:', whole.split('(')[0])
+        for name, given in calls:
             must(name in header, RUST, 'calls', name)
             called.add(name)
             known = {parameter for parameter, _, _ in header[name][0]}
@@ -154,7 +158,7 @@ def handed_over(text, header, lengths):
     return called
 
 
-def compared(library_text, header_text, rust_text):
+def compared(library_text, header_text, rust_text, words_text):
     """How many functions the three have, and sys.rs; Wrong where they differ."""
     library, (header, lengths, numbers) = of_library(library_text), of_header(header_text)
     must(list(library) == list(header), 'not the same functions:', *(set(library) ^ set(header) or ['in another order']))
@@ -169,15 +173,17 @@ def compared(library_text, header_text, rust_text):
     must(set(own) == set(lengths.values()), RUST, 'has other constants than the arrays of the header:', *sorted(set(own) ^ set(lengths.values())))
     for name, number in own.items():
         must(numbers[name] == number, RUST, name, 'is', number, 'and in the header', numbers[name])
+    layouts = {int(number) for text in (rust_text, words_text) for number in re.findall(r'const LAYOUT: u32 = (\d+);', text)}
+    must(layouts == {numbers['VDB_LAYOUT']}, 'the layout is', *layouts, 'and in the header', numbers['VDB_LAYOUT'])
     must(handed_over(rust_text, header, lengths) == set(rust), RUST, 'declares what it does not call')
     return len(library), len(rust)
 
 
-# In which of the three, a text that stands there, and what takes its place the first time that it stands there.
+# In which of them, a text that stands there, and what takes its place the first time that it stands there.
 FAULTS = [
     (LIBRARY, 'fn vdb_grid_named', 'fn vdb_grid_called'),
     (LIBRARY, 'out: &mut [u64; 8]', 'out: &mut [u64; 9]'),
-    (LIBRARY, 'place: &mut [u64; 35]', 'place: &mut [u64; 34]'),
+    (LIBRARY, 'place: &mut [u64; 40]', 'place: &mut [u64; 39]'),
     (LIBRARY, 'counts: &mut [u64; 2]', 'counts: &mut [u32; 2]'),
     (LIBRARY, 'grid: &[u8],\n    name: &[u8],', 'name: &[u8],\n    grid: &[u8],'),
     (LIBRARY, 'x: &mut [i32],\n    y: &mut [i32],', 'y: &mut [i32],\n    x: &mut [i32],'),
@@ -189,10 +195,13 @@ FAULTS = [
     (LIBRARY, ') -> u32', ') -> u64'),
     (LIBRARY, '#[no_mangle]\n', ''),
     (LIBRARY, '#[no_mangle]\n', '#[no_mangle]\npub extern "C" fn vdb_more(s: &[u8]) -> u32\n{\n    0\n}\n#[no_mangle]\n'),
+    (WORDS, 'const LAYOUT: u32 = 1', 'const LAYOUT: u32 = 2'),
+    (HEADER, 'VDB_LAYOUT = 1', 'VDB_LAYOUT = 2'),
+    (HEADER, 'vdb_layout(void)', 'vdb_layout(uint32_t n)'),
     (HEADER, 'vdb_file_entry(', 'vdb_entry('),
     (HEADER, 'uint32_t vdb_walk(', 'int32_t vdb_walk('),
-    (HEADER, 'VDB_PLACE_WORDS = 35', 'VDB_PLACE_WORDS = 36'),
-    (HEADER, 'VDB_OPENED_DOUBLES + 18', 'VDB_OPENED_DOUBLES + 15'),
+    (HEADER, 'VDB_PLACE_WORDS = 40', 'VDB_PLACE_WORDS = 41'),
+    (HEADER, 'VDB_OPENED_WORDS = 32', 'VDB_OPENED_WORDS = 31'),
     (HEADER, '    VDB_FILE_PACKED,', ''),
     (HEADER, 'out[VDB_GRID_WORDS]', 'out[VDB_FILE_WORDS]'),
     (HEADER, 'int32_t *x, size_t x_len, int32_t *y, size_t y_len', 'int32_t *y, size_t y_len, int32_t *x, size_t x_len'),
@@ -203,8 +212,10 @@ FAULTS = [
     (HEADER, 'uint64_t leaf', 'uint64_t number'),
     (HEADER, 'const uint8_t *name', 'uint8_t *name'),
     (HEADER, 'size_t file_len', 'uint32_t file_len'),
+    (RUST, 'const LAYOUT: u32 = 1', 'const LAYOUT: u32 = 2'),
+    (RUST, '    same_layout()?;\n', ''),
     (RUST, 'pub fn vdb_walk', 'pub fn vdb_walks'),
-    (RUST, 'PLACE_WORDS: usize = 35', 'PLACE_WORDS: usize = 34'),
+    (RUST, 'PLACE_WORDS: usize = 40', 'PLACE_WORDS: usize = 39'),
     (RUST, 'out: *mut u64, place: *mut u64', 'place: *mut u64, out: *mut u64'),
     (RUST, 'x: *mut i32,\n            x_len: usize,\n            y: *mut i32,\n            y_len: usize,',
      'y: *mut i32,\n            y_len: usize,\n            x: *mut i32,\n            x_len: usize,'),
@@ -235,7 +246,7 @@ def not_noticed(texts):
 
 
 def main(root):
-    texts = {path: (root / path).read_text(encoding='utf-8') for path in (LIBRARY, HEADER, RUST)}
+    texts = {path: (root / path).read_text(encoding='utf-8') for path in (LIBRARY, HEADER, RUST, WORDS)}
     try:
         counts = compared(*texts.values())
         missed = list(not_noticed(texts))

@@ -14,15 +14,17 @@ macro_rules! checks {
             Other(u32),
             /// The library did answer, with a map or a kind of entry that this crate does not know: the linked library is newer. No check failed.
             UnknownAnswer,
+            /// The linked library has another layout than this crate: nothing was lent to it. Build both from one state of the repository.
+            OtherLayout,
         }
 
         impl ParseError {
-            /// The number of the check; 0 for [`UnknownAnswer`](Self::UnknownAnswer), where none failed.
+            /// The number of the check; 0 for [`UnknownAnswer`](Self::UnknownAnswer) and [`OtherLayout`](Self::OtherLayout), where none failed.
             pub fn number(self) -> u32 {
                 match self {
                     $(Self::$name => $number,)*
                     Self::Other(number) => number,
-                    Self::UnknownAnswer => 0,
+                    Self::UnknownAnswer | Self::OtherLayout => 0,
                 }
             }
 
@@ -41,6 +43,7 @@ macro_rules! checks {
                     $(Self::$name => $text,)*
                     Self::Other(_) => "a check that this program does not know",
                     Self::UnknownAnswer => "an answer of the library that this program does not know",
+                    Self::OtherLayout => "the linked library has another layout than this program",
                 }
             }
         }
@@ -85,7 +88,7 @@ impl ParseError {
 impl fmt::Display for ParseError {
     fn fmt(&self, f: &mut fmt::Formatter<'_>) -> fmt::Result {
         match self {
-            Self::UnknownAnswer => f.write_str(self.text()),
+            Self::UnknownAnswer | Self::OtherLayout => f.write_str(self.text()),
             check => write!(f, "{} (check {})", check.text(), check.number()),
         }
     }

@@ -140,7 +140,7 @@ pub struct GridDescriptor<'f> {
 
 impl<'f> GridDescriptor<'f> {
     fn find(file: &'f [u8], file_version: u32, grid: Asked) -> Result<Self, ParseError> {
-        let [name, name_len, kind, kind_len, parent, parent_len, grid_pos, block_pos, end_pos, flags, _, metadata, _] =
+        let [name, name_len, kind, kind_len, parent, parent_len, grid_pos, block_pos, end_pos, flags, _, metadata, ..] =
             sys::grid(file, grid)?;
         let name = span(file, name, name_len);
         Ok(Self {
@@ -310,7 +310,7 @@ impl<'f> VdbReader<'f> {
 
     fn open(&self, grid: Asked) -> Result<Grid<'f>, ParseError> {
         let (opened, place) = sys::open_grid(self.file, grid)?;
-        let [background, active_count, leaf_count, doubles, _, patterns @ ..] = opened;
+        let [background, active_count, leaf_count, root_tile_count, doubles, _, patterns @ ..] = opened;
         Ok(Grid {
             file: self.file,
             descriptor: GridDescriptor::find(self.file, self.header.file_version, grid)?,
@@ -318,6 +318,7 @@ impl<'f> VdbReader<'f> {
             background: background as u32,
             active_count,
             leaf_count,
+            root_tile_count: root_tile_count as u32,
             place: Place(place),
         })
     }
@@ -349,6 +350,7 @@ pub struct Grid<'f> {
     background: u32,
     active_count: u64,
     leaf_count: u64,
+    root_tile_count: u32,
     place: Place,
 }
 
@@ -372,7 +374,7 @@ impl<'f> Grid<'f> {
     /// How many tiles the root has, active or not. They are in no list and no count, so where there are any, the active voxels may be more than the
     /// active list covers.
     pub fn root_tile_count(&self) -> u32 {
-        self.place.0[sys::PLACE_TILE_COUNT] as u32
+        self.root_tile_count
     }
 
     /// The entry of this name in the grid's metadata.

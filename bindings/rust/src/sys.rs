@@ -2,25 +2,26 @@
 //!
 //! `include/vdb.h` of the reader asks of a caller that each pointer with a length points to that many elements, is aligned and not null, and that
 //! what is lent for writing overlaps nothing else. A slice or an array that Rust lends has all of this, an empty slice too: its pointer is aligned and
-//! not null, and a `&mut` is alone. The library keeps no pointer, and takes any content. So each call below is sound for all arguments.
+//! not null, and a `&mut` is alone. The library keeps no pointer, and takes any content. The arrays have the lengths of this crate's layout; a library
+//! with another one is lent nothing (`same_layout`). So each call below is sound for all arguments.
 #![allow(unsafe_code)]
 
 use crate::ParseError;
 
+/// The layout that this crate is written for. The build script compares it with the library's, and each call before anything is lent.
+pub const LAYOUT: u32 = 1;
 pub const FILE_WORDS: usize = 8;
-pub const GRID_WORDS: usize = 13;
+pub const GRID_WORDS: usize = 16;
 pub const ENTRY_WORDS: usize = 5;
-pub const OPENED_WORDS: usize = 23;
-/// How many doubles an opened grid's words hold.
-pub const DOUBLES: usize = OPENED_WORDS - 5;
-pub const PLACE_WORDS: usize = 35;
-/// The word of a place that is the number of root tiles. The header gives a place's words no meaning; crates/words/specs/Words.antt does, and a test
-/// compares.
-pub const PLACE_TILE_COUNT: usize = 5;
+pub const OPENED_WORDS: usize = 32;
+/// How many of an opened grid's words are for doubles.
+pub const DOUBLES: usize = OPENED_WORDS - 6;
+pub const PLACE_WORDS: usize = 40;
 pub const WALK_COUNTS: usize = 2;
 
 mod c {
     extern "C" {
+        pub fn vdb_layout() -> u32;
         pub fn vdb_open_file(file: *const u8, len: usize, out: *mut u64) -> u32;
         pub fn vdb_grid_named(file: *const u8, len: usize, name: *const u8, name_len: usize, out: *mut u64) -> u32;
         pub fn vdb_grid_numbered(file: *const u8, len: usize, n: u32, out: *mut u64) -> u32;
@@ -80,7 +81,18 @@ pub enum Asked<'a> {
     Numbered(u32),
 }
 
+/// Whether the linked library has this crate's layout. One with another may write more words than an array here has, so each call asks this first; it
+/// costs a nanosecond, and nothing has to be kept between calls.
+fn same_layout() -> Result<(), ParseError> {
+    // SAFETY: nothing is lent.
+    match unsafe { c::vdb_layout() } {
+        LAYOUT => Ok(()),
+        _ => Err(ParseError::OtherLayout),
+    }
+}
+
 pub fn open_file(file: &[u8]) -> Result<[u64; FILE_WORDS], ParseError> {
+    same_layout()?;
     let mut out = [0; FILE_WORDS];
     // SAFETY: the slice has its length, and `out` the 8 words that are written.
     ParseError::check(unsafe { c::vdb_open_file(file.as_ptr(), file.len(), out.as_mut_ptr()) })?;
@@ -88,9 +100,10 @@ pub fn open_file(file: &[u8]) -> Result<[u64; FILE_WORDS], ParseError> {
 }
 
 pub fn grid(file: &[u8], grid: Asked) -> Result<[u64; GRID_WORDS], ParseError> {
+    same_layout()?;
     let mut out = [0; GRID_WORDS];
     let (f, len, o) = (file.as_ptr(), file.len(), out.as_mut_ptr());
-    // SAFETY: each slice has its length, and `out` the 13 words that are written.
+    // SAFETY: each slice has its length, and `out` the 16 words that are written.
     ParseError::check(unsafe {
         match grid {
             Asked::Named(name) => c::vdb_grid_named(f, len, name.as_ptr(), name.len(), o),
@@ -102,6 +115,7 @@ pub fn grid(file: &[u8], grid: Asked) -> Result<[u64; GRID_WORDS], ParseError> {
 
 /// An entry of the file's metadata, or of a grid's.
 pub fn entry(file: &[u8], grid: Option<&[u8]>, name: &[u8]) -> Result<[u64; ENTRY_WORDS], ParseError> {
+    same_layout()?;
     let mut out = [0; ENTRY_WORDS];
     let (f, len, o) = (file.as_ptr(), file.len(), out.as_mut_ptr());
     // SAFETY: each slice has its length, and `out` the 5 words that are written.
@@ -116,9 +130,10 @@ pub fn entry(file: &[u8], grid: Option<&[u8]>, name: &[u8]) -> Result<[u64; ENTR
 
 /// Opens a grid; the second row of words is the walk's fresh place.
 pub fn open_grid(file: &[u8], grid: Asked) -> Result<([u64; OPENED_WORDS], [u64; PLACE_WORDS]), ParseError> {
+    same_layout()?;
     let (mut out, mut place) = ([0; OPENED_WORDS], [0; PLACE_WORDS]);
     let (f, len, o, p) = (file.as_ptr(), file.len(), out.as_mut_ptr(), place.as_mut_ptr());
-    // SAFETY: each slice has its length, `out` and `place` have the 23 and 35 words that are written.
+    // SAFETY: each slice has its length, `out` and `place` have the 32 and 40 words that are written.
     ParseError::check(unsafe {
         match grid {
             Asked::Named(name) => c::vdb_open_grid_named(f, len, name.as_ptr(), name.len(), o, p),
@@ -134,8 +149,9 @@ pub fn walk(
     [x, y, z]: [&mut [i32]; 3],
     [level, value]: [&mut [u32]; 2],
 ) -> Result<[u64; WALK_COUNTS], ParseError> {
+    same_layout()?;
     let mut counts = [0; WALK_COUNTS];
-    // SAFETY: each slice has its length, `place` has 35 words and `counts` the 2 that are written; no two `&mut` overlap.
+    // SAFETY: each slice has its length, `place` has 40 words and `counts` the 2 that are written; no two `&mut` overlap.
     ParseError::check(unsafe {
         c::vdb_walk(
             file.as_ptr(),
@@ -158,6 +174,7 @@ pub fn walk(
 }
 
 pub fn fill_leaf(file: &[u8], grid: &[u8], leaf: u64, slots: &mut [u32]) -> Result<(), ParseError> {
+    same_layout()?;
     // SAFETY: each slice has its length.
     ParseError::check(unsafe {
         c::vdb_fill_leaf_named(file.as_ptr(), file.len(), grid.as_ptr(), grid.len(), leaf, slots.as_mut_ptr(), slots.len())
@@ -165,6 +182,7 @@ pub fn fill_leaf(file: &[u8], grid: &[u8], leaf: u64, slots: &mut [u32]) -> Resu
 }
 
 pub fn fill_leaves(file: &[u8], grid: &[u8], first: u64, slots: &mut [u32]) -> Result<(), ParseError> {
+    same_layout()?;
     // SAFETY: each slice has its length.
     ParseError::check(unsafe {
         c::vdb_fill_leaves_named(file.as_ptr(), file.len(), grid.as_ptr(), grid.len(), first, slots.as_mut_ptr(), slots.len())

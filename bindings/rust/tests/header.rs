@@ -61,7 +61,8 @@ fn declared(header: &str) -> BTreeMap<String, Vec<String>> {
     declarations
         .map(|part| {
             let (name, parameters) = part.split_once('(').unwrap();
-            (format!("vdb_{name}"), parameters.split(',').map(|parameter| rust_type(parameter.trim())).collect())
+            let parameters = parameters.split(',').map(str::trim).filter(|&parameter| parameter != "void");
+            (format!("vdb_{name}"), parameters.map(rust_type).collect())
         })
         .collect()
 }
@@ -90,18 +91,12 @@ fn the_words_are_those_of_the_header() {
         let line = format!("pub const {name}: usize = {};", constants[&format!("VDB_{name}")]);
         assert!(sys.contains(&line), "{line}");
     }
-    assert!(sys.contains("pub const DOUBLES: usize = OPENED_WORDS - 5;") && constants["VDB_OPENED_DOUBLES"] == 5);
+    assert!(sys.contains(&format!("pub const LAYOUT: u32 = {};", constants["VDB_LAYOUT"])));
+    assert!(sys.contains("pub const DOUBLES: usize = OPENED_WORDS - 6;") && constants["VDB_OPENED_DOUBLES"] == 6);
     assert_eq!((constants["VDB_SCALE"], constants["VDB_SCALE_TRANSLATE"]), (15, 18));
     // The crate takes the words apart by their order, and the kinds by their numbers.
-    let opened = ["BACKGROUND", "ACTIVE_COUNT", "LEAF_COUNT", "MAP", "DOUBLES_AT", "DOUBLES"];
-    assert_eq!(opened.map(|name| constants[&format!("VDB_OPENED_{name}")]), [0, 1, 2, 3, 4, 5]);
+    let opened = ["BACKGROUND", "ACTIVE_COUNT", "LEAF_COUNT", "ROOT_TILES", "MAP", "DOUBLES_AT", "DOUBLES"];
+    assert_eq!(opened.map(|name| constants[&format!("VDB_OPENED_{name}")]), [0, 1, 2, 3, 4, 5, 6]);
     let kinds = ["STRING", "BOOL", "INT32", "INT64", "FLOAT", "VEC3I", "OTHER"];
     assert_eq!(kinds.map(|name| constants[&format!("VDB_{name}")]), [0, 1, 2, 3, 4, 5, 6]);
-}
-
-#[test]
-fn the_word_of_the_root_tiles_is_that_of_the_definition() {
-    let definition = fs::read_to_string(common::repository().join("crates/words/specs/Words.antt")).unwrap();
-    let word = definition.split_once("«tile_count» = low32 (at w ").unwrap().1.split(')').next().unwrap();
-    assert!(sys().contains(&format!("pub const PLACE_TILE_COUNT: usize = {word};")), "{word}");
 }

@@ -13,17 +13,17 @@ use Rattle.outward.specs.Outward.{entryWords, table}
 pub entry-by : {v u : MetadataValue} {w : List ℕ} → v ≡ u → w ≡ entryWords u → w ≡ entryWords v
 entry-by e h = rw e h
 
--- the 18 words behind the first five: one more is written, or all are
+-- the 26 words behind the first six: one more is written, or all are
 module _ (f : ℕ → ℕ) (head out : List ℕ) (i : ℕ) where
   pub table-more :
-      (v : ℕ) → i < 18 → length out ≡ 23 → take (5 + i) out ≡ head ++ table f i → v ≡ f i → take (5 + (i + 1)) (set out (5 + i) v) ≡ head ++ table f (i + 1)
+      (v : ℕ) → i < 26 → length out ≡ 32 → take (6 + i) out ≡ head ++ table f i → v ≡ f i → take (6 + (i + 1)) (set out (6 + i) v) ≡ head ++ table f (i + 1)
   unfolding table
   table-more v l n e x =
-      let k : 5 + (i + 1) ≡ suc (5 + i) = omega arith in
-      let h : 5 + i < length out = omega arith in
-      rw (k, take-suc-set out (5 + i) v h, e, x, add-one i, append-assoc)
+      let k : 6 + (i + 1) ≡ suc (6 + i) = omega arith in
+      let h : 6 + i < length out = omega arith in
+      rw (k, take-suc-set out (6 + i) v h, e, x, add-one i, append-assoc)
 
-  pub table-all : 18 ≤ i → i ≤ 18 → length out ≡ 23 → take (5 + i) out ≡ head ++ table f i → out ≡ head ++ table f 18
+  pub table-all : 26 ≤ i → i ≤ 26 → length out ≡ 32 → take (6 + i) out ≡ head ++ table f i → out ≡ head ++ table f 26
   table-all l h n e =
-      let k : i ≡ 18 = omega arith in
-      sym (take-all 23 out (omega arith)) ∙ (rw k at e)
+      let k : i ≡ 26 = omega arith in
+      sym (take-all 32 out (omega arith)) ∙ (rw k at e)

@@ -32,11 +32,13 @@ halfNumber (Half.Says true) = 2
 halfNumber (Half.Says false) = 1
 halfNumber Half.Nothing = 0
 
--- section 2: name, type and parent by start and length, the three positions, the flags, the half entry, where metadata and tree start
+-- section 2: name, type and parent by start and length, the three positions, the flags, the half entry, where metadata and tree start; the last three
+-- are 0, room for what may be told later
 abbrev pub descriptorWords : GridDescriptor → List ℕ
 descriptorWords d =
     d .name .start ∷ d .name .len ∷ d .«grid_type» .start ∷ d .«grid_type» .len ∷ d .«instance_parent» .start ∷ d .«instance_parent» .len
-    ∷ d .«grid_pos» ∷ d .«block_pos» ∷ d .«end_pos» ∷ d .compression ∷ halfNumber (d .half) ∷ d .«meta_pos» ∷ d .«tree_pos» ∷ []
+    ∷ d .«grid_pos» ∷ d .«block_pos» ∷ d .«end_pos» ∷ d .compression ∷ halfNumber (d .half) ∷ d .«meta_pos» ∷ d .«tree_pos»
+    ∷ 0 ∷ 0 ∷ 0 ∷ []
 
 -- section 2: an entry's kind, by its number, and its value; strings and raw values by start and length, a raw value's kind behind it
 abbrev pub entryWords : MetadataValue → List ℕ
@@ -61,12 +63,12 @@ unfoldable pub table : (ℕ → ℕ) → ℕ → List ℕ
 table f zero = []
 table f (suc n) = table f n ++ f n ∷ []
 
--- section 7: background, length of the active list, number of leaves, number of doubles, where these stand, which is right before the transform's end,
--- and 18 words with their patterns
+-- section 7: background, length of the active list, number of leaves, number of root tiles, number of doubles, where these stand, which is right before
+-- the transform's end, and 26 words with their patterns
 abbrev pub doublesStart : OpenedGrid → ℕ
 doublesStart g = g .«transform_end» - 8 * doubleCount (g .transform)
 
 unfoldable pub openedWords : List ℕ → OpenedGrid → List ℕ
 openedWords s g =
-    g .background ∷ g .«active_count» ∷ g .«leaf_count» ∷ doubleCount (g .transform) ∷ doublesStart g
-    ∷ table (doubleAt s (doublesStart g) (doubleCount (g .transform))) 18
+    g .background ∷ g .«active_count» ∷ g .«leaf_count» ∷ g .place .start .«tile_count» ∷ doubleCount (g .transform) ∷ doublesStart g
+    ∷ table (doubleAt s (doublesStart g) (doubleCount (g .transform))) 26

@@ -41,7 +41,7 @@ fn half_number(half: HalfEntry) -> u64
     }
 }
 
-pub fn descriptor_words(d: GridDescriptor) -> [u64; 13]
+pub fn descriptor_words(d: GridDescriptor) -> [u64; 16]
     ensures { λ r. ⌜ r ≡ descriptorWords d ⌝ }
 {
     let name = d.name;
@@ -62,6 +62,9 @@ pub fn descriptor_words(d: GridDescriptor) -> [u64; 13]
         half_number(half),
         d.meta_pos as u64,
         d.tree_pos as u64,
+        0,
+        0,
+        0,
     ]
 }
 
@@ -112,22 +115,26 @@ fn double_at(s: &[u8], start: usize, count: usize, i: usize) -> u64
     0
 }
 
-pub fn opened_words(s: &[u8], g: OpenedGrid) -> [u64; 23]
+pub fn opened_words(s: &[u8], g: OpenedGrid) -> [u64; 32]
     requires { ⌜ DoublesHeld (now s) g ⌝ }
     ensures { λ r. ⌜ r ≡ openedWords (now (s .entry)) g ⌝ }
 {
     let transform = g.transform;
     let count = double_count(transform);
     let start = g.transform_end - 8 * count;
-    let mut out = [0u64; 23];
+    let place = g.place;
+    let tree = place.start;
+    let tile_count = tree.tile_count;
+    let mut out = [0u64; 32];
     out[0] = g.background as u64;
     out[1] = g.active_count;
     out[2] = g.leaf_count;
-    out[3] = count as u64;
-    out[4] = start as u64;
+    out[3] = tile_count as u64;
+    out[4] = count as u64;
+    out[5] = start as u64;
     let mut i = 0;
-    while i < 18 {
-        out[5 + i] = double_at(s, start, count, i);
+    while i < 26 {
+        out[6 + i] = double_at(s, start, count, i);
         i = i + 1;
     }
     out

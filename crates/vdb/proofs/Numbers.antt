@@ -5,6 +5,7 @@ use mathlib.Core.List.{List, [], _∷_, _++_}
 use mathlib.Core.Bool.{Bool, true, false, _&&_, true≢false}
 use mathlib.Core.Option.{Option, none, some}
 use Prim.Native.Nat.{ℕ, zero, suc, _-_}
+use native.Mathlib.Omega.{arith}
 use lib.Dec.{ltb, leb}
 use lib.ListN.{take}
 use Rattle.fields.specs.Parse.{Parse, got, fails, then, when, check, field, many}
@@ -43,7 +44,7 @@ use Rattle.leaves.specs.Leaves.{leafNumbered, presentLeaf, fillLeaf, fillLeaves
 use Rattle.records.specs.Slots.{Slots}
 use Rattle.walk.specs.Walk.{saysWalk}
 use Rattle.walk.specs.declared.Walked.{Walked}
-use Rattle.words.specs.Words.{at, startOf, placeOf, startWords, wordsOf}
+use Rattle.words.specs.Words.{at, layout, hasLayout, startBy, placeBy, startWords, wordsOf}
 use Rattle.vdb.specs.Vdb.{laid, openWords, walkWords, OpenCall, WalkCall}
 use Rattle.vdb.specs.Calls.{WordCall, Chained, Walks}
 use Rattle.vdb.proofs.Calls.{walks}
@@ -405,28 +406,38 @@ given-at-0 q words lent e = laid-at-0 _ (numbered q) words lent e
 pub walked-at-0 :
     {s words counts : List ℕ} {before : Slots} {words′ counts′ : List ℕ} {after : Slots} (c : WalkCall s words counts before 0 words′ counts′ after) →
     (w : Walked) × (gives w ≡ saysWalk (c .answer)) × ((words′, counts′) ≡ walkWords w)
-walked-at-0 {words = words} {counts = counts} c = laid-at-0 _ (go (saysWalk (c .answer)) (c .walked .refused)) walkWords (words, counts) (c .left)
+walked-at-0 {words = words} {counts = counts} c = laid-at-0 _ (either (hasLayout words) refl) walkWords (words, counts) (c .left)
   where
     go : {after before : Slots} (m : Answer Walked) → ((k : ℕ) → m ≡ refuses k → (k ≡ 22) × (after ≡ before)) → Answers m
     go (gives w) h = tt
     go (refuses k) h = rw (h k refl .0)
 
--- And the words that it leaves, whatever words it was given: the first ten are those of what these start from, a number of 32 bits by its low half; the
--- next is the number left, which the counts tell too, and which is what was left less the number filled.
+    either : (t : Bool) → hasLayout words ≡ t → Answers (saysWalk (c .answer))
+    either true e = go (saysWalk (c .answer)) (c .walked (placeBy words) (e, refl) .refused)
+    either false e = rw (c .foreign e .0) refl
+
+-- And the words that it leaves, whatever words of this layout it was given: the first eleven are the layout and those of what these start from, a number
+-- of 32 bits by its low half; the next is the number left, which the counts tell too, and which is what was left less the number filled.
 pub walk-keeps :
     {s words counts : List ℕ} {before : Slots} {words′ counts′ : List ℕ} {after : Slots} (c : WalkCall s words counts before 0 words′ counts′ after) →
-    (take 10 words′ ≡ startWords (startOf words)) × (at words′ 10 ≡ at words 10 - at counts′ 0) × (at counts′ 1 ≡ at words′ 10)
-unfolding wordsOf placeOf
-walk-keeps {words = words} c =
-    let a = walked-at-0 c in
-    let b = c .walked .left-behind (a .0) (sym (a .1)) in
-    let there = ap (λ (x : List ℕ × List ℕ). at (x .0) 10) (a .2) in
-    let filled = ap (λ (x : List ℕ × List ℕ). at (x .1) 0) (a .2) in
-    let left = ap (λ (x : List ℕ × List ℕ). at (x .1) 1) (a .2) in (
-      ap (λ (x : List ℕ × List ℕ). take 10 (x .0)) (a .2) ∙ ap startWords (b .start),
-      there ∙ b .in-place ∙ b .left ∙ ap (λ (n : ℕ). at words 10 - n) (sym filled),
-      left ∙ sym (b .in-place) ∙ sym there,
-    )
+    (take 11 words′ ≡ layout ∷ startWords (startBy words 1)) × (at words′ 11 ≡ at words 11 - at counts′ 0) × (at counts′ 1 ≡ at words′ 11)
+unfolding wordsOf placeBy
+walk-keeps {words = words} {counts = counts} {words′ = words′} {counts′ = counts′} c = either (hasLayout words) refl
+  where
+    either :
+        (t : Bool) → hasLayout words ≡ t →
+        (take 11 words′ ≡ layout ∷ startWords (startBy words 1)) × (at words′ 11 ≡ at words 11 - at counts′ 0) × (at counts′ 1 ≡ at words′ 11)
+    either false e = let z : _≡_ {A = ℕ} 0 1 = cc (c .foreign e .0, walked-at-0 c .1) in absurd (omega arith)
+    either true e =
+        let a = walked-at-0 c in
+        let b = c .walked (placeBy words) (e, refl) .left-behind (a .0) (sym (a .1)) in
+        let there = ap (λ (x : List ℕ × List ℕ). at (x .0) 11) (a .2) in
+        let filled = ap (λ (x : List ℕ × List ℕ). at (x .1) 0) (a .2) in
+        let left = ap (λ (x : List ℕ × List ℕ). at (x .1) 1) (a .2) in (
+          ap (λ (x : List ℕ × List ℕ). take 11 (x .0)) (a .2) ∙ ap (λ (t : _). layout ∷ startWords t) (b .start),
+          there ∙ b .in-place ∙ b .left ∙ ap (λ (n : ℕ). at words 11 - n) (sym filled),
+          left ∙ sym (b .in-place) ∙ sym there,
+        )
 
 -- Demand 3 for such a caller: opening returned 0, and each call is given the words that the one before it left.
 pub walks-at-0 :

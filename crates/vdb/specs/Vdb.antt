@@ -2,13 +2,15 @@
 use Prim.Native.Nat.{ℕ}
 use mathlib.Core.Path.{_≡_}
 use mathlib.Core.List.{List, [], _∷_}
+use mathlib.Core.Bool.{false}
 use Rattle.archive.specs.Answer.{Answer, gives, refuses}
 use Rattle.grid.specs.declared.OpenedGrid.{OpenedGrid}
 use Rattle.records.specs.Slots.{Slots}
 use Rattle.walk.specs.Walk.{saysWalk, Promise}
+use Rattle.place.specs.declared.Place.{Place}
 use Rattle.walk.specs.declared.Walked.{Walked}
 use Rattle.walk.specs.declared.WalkAnswer.{WalkAnswer}
-use Rattle.words.specs.Words.{placeOf, wordsOf}
+use Rattle.words.specs.Words.{hasLayout, StandFor, wordsOf}
 use Rattle.outward.specs.Outward.{openedWords}
 
 -- Section 8: 0, and the words of what the answer gives in the place of what was lent; or the check's number, and what was lent as it was.
@@ -24,7 +26,7 @@ openWords s g = (openedWords s g, wordsOf (g .place))
 pub record OpenCall (s : List ℕ) (m : Answer OpenedGrid) (out place : List ℕ) (r : ℕ) (out′ place′ : List ℕ) : Type 0 where
   pub left : (r, (out′, place′)) ≡ laid m (openWords s) (out, place)
   -- the words of the fresh place stand for it
-  pub stands : (g : OpenedGrid) → m ≡ gives g → placeOf place′ ≡ g .place
+  pub stands : (g : OpenedGrid) → m ≡ gives g → StandFor place′ (g .place)
 
 -- section 7: the next place's words, and the number filled and the number left
 abbrev pub walkWords : Walked → List ℕ × List ℕ
@@ -32,9 +34,10 @@ walkWords w = (wordsOf (w .place), w .filled ∷ w .left ∷ [])
 
 -- Section 7: a walk call over the bytes s, with the words of a place, the counts and the slots before it, the number returned, and all three after it.
 pub record WalkCall (s words counts : List ℕ) (before : Slots) (r : ℕ) (words′ counts′ : List ℕ) (after : Slots) : Type 0 where
-  -- there is an answer that keeps what a walk from the place of these words promises,
+  -- there is an answer that keeps what a walk promises from the place that these words stand for; words of another layout stand for none,
   pub answer : WalkAnswer
-  pub walked : Promise s (placeOf words) before answer after
+  pub walked : (p : Place) → StandFor words p → Promise s p before answer after
+  pub foreign : hasLayout words ≡ false → (saysWalk answer ≡ refuses 22) × (after ≡ before)
   -- the words that are left are its own, and stand for the place that it hands back
   pub left : (r, (words′, counts′)) ≡ laid (saysWalk answer) walkWords (words, counts)
-  pub stands : (w : Walked) → saysWalk answer ≡ gives w → placeOf words′ ≡ w .place
+  pub stands : (w : Walked) → saysWalk answer ≡ gives w → StandFor words′ (w .place)

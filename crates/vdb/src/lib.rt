@@ -7,6 +7,7 @@ ghost use Rattle.archive.specs.Archive.{openFile, gridNamed, gridNumbered, file
 ghost use Rattle.grid.specs.Grid.{openGridNamed, openGridNumbered};
 ghost use Rattle.leaves.specs.Leaves.{fillLeafNamed, fillLeafNumbered, fillLeavesNamed, fillLeavesNumbered};
 ghost use Rattle.records.specs.Slots.{slotsOf};
+ghost use Rattle.words.specs.Words.{layout};
 ghost use Rattle.outward.specs.Outward.{headerWords, descriptorWords, entryWords};
 ghost use Rattle.vdb.specs.Vdb.{laid, OpenCall, WalkCall};
 use answers::DescriptorAnswer;
@@ -15,6 +16,14 @@ use answers::HeaderAnswer;
 use grid::GridAnswer;
 use leaves::FillAnswer;
 use walk::WalkAnswer;
+
+// The number of the layout of all that is lent: a caller that was built for another one lends nothing.
+#[no_mangle]
+pub extern "C" fn vdb_layout() -> u32
+    ensures { λ r. ⌜ r ≡ layout ⌝ }
+{
+    words::layout()
+}
 
 // Opens the file.
 #[no_mangle]
@@ -32,7 +41,7 @@ pub extern "C" fn vdb_open_file(s: &[u8], out: &mut [u64; 8]) -> u32
 
 // The descriptor of the grid of this name.
 #[no_mangle]
-pub extern "C" fn vdb_grid_named(s: &[u8], name: &[u8], out: &mut [u64; 13]) -> u32
+pub extern "C" fn vdb_grid_named(s: &[u8], name: &[u8], out: &mut [u64; 16]) -> u32
     ensures { λ r. ⌜ (r, now (out .exit)) ≡ laid (gridNamed (now (s .entry)) (now (name .entry))) descriptorWords (now (out .entry)) ⌝ }
 {
     match answers::grid_named(s, name) {
@@ -46,7 +55,7 @@ pub extern "C" fn vdb_grid_named(s: &[u8], name: &[u8], out: &mut [u64; 13]) -> 
 
 // The descriptor of the grid with this number, from 0.
 #[no_mangle]
-pub extern "C" fn vdb_grid_numbered(s: &[u8], n: u32, out: &mut [u64; 13]) -> u32
+pub extern "C" fn vdb_grid_numbered(s: &[u8], n: u32, out: &mut [u64; 16]) -> u32
     ensures { λ r. ⌜ (r, now (out .exit)) ≡ laid (gridNumbered (now (s .entry)) n) descriptorWords (now (out .entry)) ⌝ }
 {
     match answers::grid_numbered(s, n) {
@@ -110,8 +119,8 @@ pub extern "C" fn vdb_grid_entry_numbered(s: &[u8], n: u32, name: &[u8], out: &m
 pub extern "C" fn vdb_open_grid_named(
     s: &[u8],
     name: &[u8],
-    out: &mut [u64; 23],
-    place: &mut [u64; 35],
+    out: &mut [u64; 32],
+    place: &mut [u64; 40],
 ) -> u32
     ensures { λ r. ⌜ OpenCall (now (s .entry)) (openGridNamed (now (s .entry)) (now (name .entry))) (now (out .entry)) (now (place .entry)) r (now (out .exit)) (now (place .exit)) ⌝ }
 {
@@ -131,8 +140,8 @@ pub extern "C" fn vdb_open_grid_named(
 pub extern "C" fn vdb_open_grid_numbered(
     s: &[u8],
     n: u32,
-    out: &mut [u64; 23],
-    place: &mut [u64; 35],
+    out: &mut [u64; 32],
+    place: &mut [u64; 40],
 ) -> u32
     ensures { λ r. ⌜ OpenCall (now (s .entry)) (openGridNumbered (now (s .entry)) n) (now (out .entry)) (now (place .entry)) r (now (out .exit)) (now (place .exit)) ⌝ }
 {
@@ -147,11 +156,11 @@ pub extern "C" fn vdb_open_grid_numbered(
     }
 }
 
-// The walk call: the records that follow a place, into lent slots.
+// The walk call: the records that follow a place, into lent slots. Words of another layout are no place of these bytes.
 #[no_mangle]
 pub extern "C" fn vdb_walk(
     s: &[u8],
-    place: &mut [u64; 35],
+    place: &mut [u64; 40],
     x: &mut [i32],
     y: &mut [i32],
     z: &mut [i32],
@@ -162,6 +171,9 @@ pub extern "C" fn vdb_walk(
     ensures { λ r. ⌜ WalkCall (now (s .entry)) (now (place .entry)) (now (counts .entry)) (slotsOf (now (x .entry)) (now (y .entry)) (now (z .entry)) (now (level .entry)) (now (value .entry))) r (now (place .exit)) (now (counts .exit)) (slotsOf (now (x .exit)) (now (y .exit)) (now (z .exit)) (now (level .exit)) (now (value .exit))) ⌝ }
 {
     let kept = *place;
+    if !words::has_layout(kept) {
+        return 22;
+    }
     match walk::walk(s, words::place_of(kept), x, y, z, level, value) {
         WalkAnswer::Refused(k) => k,
         WalkAnswer::Walked(w) => {

@@ -1,6 +1,9 @@
--- Section 7: a walk's place as 35 words of 64 bits.
+-- Section 7: a walk's place as 40 words of 64 bits.
 use Prim.Native.Nat.{ℕ, _+_, _-_, _%_}
+use mathlib.Core.Path.{_≡_}
+use mathlib.Core.Bool.{Bool, true}
 use mathlib.Core.List.{List, [], _∷_, _++_}
+use lib.Dec.{eqb}
 use lib.IntN.{ℤ, pos, negsuc}
 use lib.ListN.{getD}
 use Rattle.fields.specs.Le.{signed}
@@ -16,47 +19,54 @@ abbrev pub pattern : ℤ → ℕ
 pattern (pos n) = n
 pattern (negsuc n) = 0xffff_ffff_ffff_ffff - n
 
--- The place that 35 words stand for. A position or a length is a whole word, a smaller number the low 32 bits of one, a coordinate these in two's
+-- The place that 40 words stand for. A position or a length is a whole word, a smaller number the low 32 bits of one, a coordinate these in two's
 -- complement.
 abbrev pub low32 : ℕ → ℕ
 low32 w = w % 0x1_0000_0000
 
-abbrev pub coordsOf : ℕ → ℕ → ℕ → GlobalCoord
-coordsOf x y z = (signed 31 (low32 x), signed 31 (low32 y), signed 31 (low32 z))
+abbrev pub coordsBy : ℕ → ℕ → ℕ → GlobalCoord
+coordsBy x y z = (signed 31 (low32 x), signed 31 (low32 y), signed 31 (low32 z))
 
-abbrev pub enteredOf : ℕ → ℕ → ℕ → ℕ → ℕ → Entered
-enteredOf x y z at next = record { origin = coordsOf x y z; pos = at; next = low32 next }
+abbrev pub enteredBy : ℕ → ℕ → ℕ → ℕ → ℕ → Entered
+enteredBy x y z at next = record { origin = coordsBy x y z; pos = at; next = low32 next }
 
 abbrev pub at : List ℕ → ℕ → ℕ
 at w i = getD w i 0
 
--- what a walk starts from, by the first ten words
-unfoldable pub startOf : List ℕ → Start
-startOf w = record {
-  coding = record { version = low32 (at w 0); flags = low32 (at w 1); width = at w 2; background = low32 (at w 3) };
-  «tiles_pos» = at w 4;
-  «tile_count» = low32 (at w 5);
-  «roots_pos» = at w 6;
-  «root_count» = low32 (at w 7);
-  «block_pos» = at w 8;
-  length = at w 9;
+-- The first word is the number of the words' layout, so that words that a library of another layout wrote can be told apart.
+abbrev pub layout : ℕ
+layout = 1
+
+abbrev pub hasLayout : List ℕ → Bool
+hasLayout w = eqb (at w 0) layout
+
+-- what a walk starts from, by the ten words from word k on
+unfoldable pub startBy : List ℕ → ℕ → Start
+startBy w k = record {
+  coding = record { version = low32 (at w k); flags = low32 (at w (k + 1)); width = at w (k + 2); background = low32 (at w (k + 3)) };
+  «tiles_pos» = at w (k + 4);
+  «tile_count» = low32 (at w (k + 5));
+  «roots_pos» = at w (k + 6);
+  «root_count» = low32 (at w (k + 7));
+  «block_pos» = at w (k + 8);
+  length = at w (k + 9);
 }
 
 -- the cursor from word k on, and the place in a piece
-unfoldable pub cursorOf : List ℕ → ℕ → Cursor
-cursorOf w k = record {
+unfoldable pub cursorBy : List ℕ → ℕ → Cursor
+cursorBy w k = record {
   depth = low32 (at w k);
   «roots_left» = low32 (at w (k + 1));
-  node5 = enteredOf (at w (k + 2)) (at w (k + 3)) (at w (k + 4)) (at w (k + 5)) (at w (k + 6));
-  node4 = enteredOf (at w (k + 7)) (at w (k + 8)) (at w (k + 9)) (at w (k + 10)) (at w (k + 11));
+  node5 = enteredBy (at w (k + 2)) (at w (k + 3)) (at w (k + 4)) (at w (k + 5)) (at w (k + 6));
+  node4 = enteredBy (at w (k + 7)) (at w (k + 8)) (at w (k + 9)) (at w (k + 10)) (at w (k + 11));
   «topology_pos» = at w (k + 12);
   «block_pos» = at w (k + 13);
 }
 
-unfoldable pub insideOf : List ℕ → ℕ → Inside
-insideOf w k = record {
+unfoldable pub insideBy : List ℕ → ℕ → Inside
+insideBy w k = record {
   level = low32 (at w k);
-  origin = coordsOf (at w (k + 1)) (at w (k + 2)) (at w (k + 3));
+  origin = coordsBy (at w (k + 1)) (at w (k + 2)) (at w (k + 3));
   child = at w (k + 4);
   value = at w (k + 5);
   stored = low32 (at w (k + 6));
@@ -65,8 +75,12 @@ insideOf w k = record {
   number = at w (k + 9);
 }
 
-unfoldable pub placeOf : List ℕ → Place
-placeOf w = record { start = startOf w; left = at w 10; cursor = cursorOf w 11; inside = insideOf w 25 }
+unfoldable pub placeBy : List ℕ → Place
+placeBy w = record { start = startBy w 1; left = at w 11; cursor = cursorBy w 12; inside = insideBy w 26 }
+
+-- words of this layout stand for a place
+abbrev pub StandFor : List ℕ → Place → Type 0
+StandFor w p = (hasLayout w ≡ true) × (placeBy w ≡ p)
 
 -- A place's words, in the same order.
 abbrev pub startWords : Start → List ℕ
@@ -86,5 +100,6 @@ cursorWords c = c .depth ∷ c .«roots_left» ∷ enteredWords (c .node5) ++ en
 abbrev pub insideWords : Inside → List ℕ
 insideWords w = w .level ∷ coordWords (w .origin) ++ w .child ∷ w .value ∷ w .stored ∷ w .start ∷ w .from ∷ w .number ∷ []
 
+-- the last four are 0: room for what a later place may hold
 unfoldable pub wordsOf : Place → List ℕ
-wordsOf p = startWords (p .start) ++ p .left ∷ cursorWords (p .cursor) ++ insideWords (p .inside)
+wordsOf p = layout ∷ startWords (p .start) ++ p .left ∷ cursorWords (p .cursor) ++ insideWords (p .inside) ++ 0 ∷ 0 ∷ 0 ∷ 0 ∷ []

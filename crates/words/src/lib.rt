@@ -1,8 +1,9 @@
-// A walk's place as 35 words of 64 bits, for a caller that keeps it as plain numbers: in another language, or in a file. Any 35 words are some place:
-// a word of a smaller field counts by its low 32 bits. What a place is turned into is turned back into the same place.
+// A walk's place as 40 words of 64 bits, for a caller that keeps it as plain numbers: in another language, or in a file. The first word is the number of
+// the words' layout. Any other words behind it are some place: a word of a smaller field counts by its low 32 bits. What a place is turned into is turned
+// back into the same place.
 ghost use mathlib.Core.Path.{_≡_};
 ghost use Rattle.fields.specs.Le.{signed};
-ghost use Rattle.words.specs.Words.{pattern, low32, at, startOf, coordsOf, enteredOf, cursorOf, insideOf, placeOf, startWords, coordWords, enteredWords, cursorWords, insideWords, wordsOf};
+ghost use Rattle.words.specs.Words.{pattern, low32, at, layout, hasLayout, StandFor, startBy, coordsBy, enteredBy, cursorBy, insideBy, placeBy, startWords, coordWords, enteredWords, cursorWords, insideWords, wordsOf};
 use coordinates::GlobalCoord;
 use cursor::Cursor;
 use cursor::Entered;
@@ -10,6 +11,22 @@ use place::Place;
 use place::Start;
 use records::Inside;
 use values::Coding;
+
+const LAYOUT: u32 = 1;
+
+// The number of the layout of a place's words. It changes when the words of an older place would be read as another one.
+pub fn layout() -> u32
+    ensures { λ r. ⌜ r ≡ layout ⌝ }
+{
+    LAYOUT
+}
+
+// Whether words have this layout.
+pub fn has_layout(w: [u64; 40]) -> bool
+    ensures { λ r. ⌜ r ≡ hasLayout w ⌝ }
+{
+    w[0] == LAYOUT as u64
+}
 
 // A signed number's pattern in two's complement.
 pub fn pattern_of(x: i64) -> u64
@@ -34,13 +51,13 @@ fn coord(w: u64) -> i32
 }
 
 fn coords_of(x: u64, y: u64, z: u64) -> GlobalCoord
-    ensures { λ r. ⌜ r ≡ coordsOf x y z ⌝ }
+    ensures { λ r. ⌜ r ≡ coordsBy x y z ⌝ }
 {
     GlobalCoord(coord(x), coord(y), coord(z))
 }
 
 fn entered_of(x: u64, y: u64, z: u64, pos: u64, next: u64) -> Entered
-    ensures { λ r. ⌜ r ≡ enteredOf x y z pos next ⌝ }
+    ensures { λ r. ⌜ r ≡ enteredBy x y z pos next ⌝ }
 {
     let origin = coords_of(x, y, z);
     Entered {
@@ -50,67 +67,67 @@ fn entered_of(x: u64, y: u64, z: u64, pos: u64, next: u64) -> Entered
     }
 }
 
-fn cursor_of(w: [u64; 35]) -> Cursor
-    ensures { λ r. ⌜ r ≡ cursorOf w 11 ⌝ }
+fn cursor_of(w: [u64; 40]) -> Cursor
+    ensures { λ r. ⌜ r ≡ cursorBy w 12 ⌝ }
 {
-    let node5 = entered_of(w[13], w[14], w[15], w[16], w[17]);
-    let node4 = entered_of(w[18], w[19], w[20], w[21], w[22]);
+    let node5 = entered_of(w[14], w[15], w[16], w[17], w[18]);
+    let node4 = entered_of(w[19], w[20], w[21], w[22], w[23]);
     Cursor {
-        depth: low(w[11]),
-        roots_left: low(w[12]),
+        depth: low(w[12]),
+        roots_left: low(w[13]),
         node5,
         node4,
-        topology_pos: w[23] as usize,
-        block_pos: w[24] as usize,
+        topology_pos: w[24] as usize,
+        block_pos: w[25] as usize,
     }
 }
 
-fn inside_of(w: [u64; 35]) -> Inside
-    ensures { λ r. ⌜ r ≡ insideOf w 25 ⌝ }
+fn inside_of(w: [u64; 40]) -> Inside
+    ensures { λ r. ⌜ r ≡ insideBy w 26 ⌝ }
 {
-    let origin = coords_of(w[26], w[27], w[28]);
+    let origin = coords_of(w[27], w[28], w[29]);
     Inside {
-        level: low(w[25]),
+        level: low(w[26]),
         origin,
-        child: w[29] as usize,
-        value: w[30] as usize,
-        stored: low(w[31]),
-        start: w[32] as usize,
-        from: low(w[33]),
-        number: w[34] as usize,
+        child: w[30] as usize,
+        value: w[31] as usize,
+        stored: low(w[32]),
+        start: w[33] as usize,
+        from: low(w[34]),
+        number: w[35] as usize,
     }
 }
 
-fn start_of(w: [u64; 35]) -> Start
-    ensures { λ r. ⌜ r ≡ startOf w ⌝ }
+fn start_of(w: [u64; 40]) -> Start
+    ensures { λ r. ⌜ r ≡ startBy w 1 ⌝ }
 {
     let coding = Coding {
-        version: low(w[0]),
-        flags: low(w[1]),
-        width: w[2] as usize,
-        background: low(w[3]),
+        version: low(w[1]),
+        flags: low(w[2]),
+        width: w[3] as usize,
+        background: low(w[4]),
     };
     Start {
         coding,
-        tiles_pos: w[4] as usize,
-        tile_count: low(w[5]),
-        roots_pos: w[6] as usize,
-        root_count: low(w[7]),
-        block_pos: w[8] as usize,
-        length: w[9],
+        tiles_pos: w[5] as usize,
+        tile_count: low(w[6]),
+        roots_pos: w[7] as usize,
+        root_count: low(w[8]),
+        block_pos: w[9] as usize,
+        length: w[10],
     }
 }
 
-// The place that these words stand for.
-pub fn place_of(w: [u64; 35]) -> Place
-    ensures { λ r. ⌜ r ≡ placeOf w ⌝ }
+// The place that these words stand for, if they have this layout.
+pub fn place_of(w: [u64; 40]) -> Place
+    ensures { λ r. ⌜ r ≡ placeBy w ⌝ }
 {
     let start = start_of(w);
     let cursor = cursor_of(w);
     let inside = inside_of(w);
     Place {
         start,
-        left: w[10],
+        left: w[11],
         cursor,
         inside,
     }
@@ -132,7 +149,7 @@ pub fn coord_word(x: i32) -> u64
 
 // The words of what a walk starts from, of a coordinate, a node, a cursor and a place in a piece, from each of which it comes back.
 fn start_words(t: Start) -> [u64; 10]
-    ensures { λ r. ⌜ (r ≡ startWords t) × (startOf r ≡ t) ⌝ }
+    ensures { λ r. ⌜ (r ≡ startWords t) × (startBy r 0 ≡ t) ⌝ }
 {
     let c = t.coding;
     [
@@ -150,13 +167,13 @@ fn start_words(t: Start) -> [u64; 10]
 }
 
 fn coord_words(o: GlobalCoord) -> [u64; 3]
-    ensures { λ r. ⌜ (r ≡ coordWords o) × (coordsOf (at r 0) (at r 1) (at r 2) ≡ o) ⌝ }
+    ensures { λ r. ⌜ (r ≡ coordWords o) × (coordsBy (at r 0) (at r 1) (at r 2) ≡ o) ⌝ }
 {
     [coord_word(o.0), coord_word(o.1), coord_word(o.2)]
 }
 
 fn entered_words(e: Entered) -> [u64; 5]
-    ensures { λ r. ⌜ (r ≡ enteredWords e) × (enteredOf (at r 0) (at r 1) (at r 2) (at r 3) (at r 4) ≡ e) ⌝ }
+    ensures { λ r. ⌜ (r ≡ enteredWords e) × (enteredBy (at r 0) (at r 1) (at r 2) (at r 3) (at r 4) ≡ e) ⌝ }
 {
     let origin = e.origin;
     let o = coord_words(origin);
@@ -164,7 +181,7 @@ fn entered_words(e: Entered) -> [u64; 5]
 }
 
 fn cursor_words(c: Cursor) -> [u64; 14]
-    ensures { λ r. ⌜ (r ≡ cursorWords c) × (cursorOf r 0 ≡ c) ⌝ }
+    ensures { λ r. ⌜ (r ≡ cursorWords c) × (cursorBy r 0 ≡ c) ⌝ }
 {
     let node5 = c.node5;
     let node4 = c.node4;
@@ -189,7 +206,7 @@ fn cursor_words(c: Cursor) -> [u64; 14]
 }
 
 fn inside_words(w: Inside) -> [u64; 10]
-    ensures { λ r. ⌜ (r ≡ insideWords w) × (insideOf r 0 ≡ w) ⌝ }
+    ensures { λ r. ⌜ (r ≡ insideWords w) × (insideBy r 0 ≡ w) ⌝ }
 {
     let origin = w.origin;
     let o = coord_words(origin);
@@ -208,8 +225,8 @@ fn inside_words(w: Inside) -> [u64; 10]
 }
 
 // A place's words, which stand for it.
-pub fn words_of(p: Place) -> [u64; 35]
-    ensures { λ r. ⌜ (r ≡ wordsOf p) × (placeOf r ≡ p) ⌝ }
+pub fn words_of(p: Place) -> [u64; 40]
+    ensures { λ r. ⌜ (r ≡ wordsOf p) × StandFor r p ⌝ }
 {
     let start = p.start;
     let cursor = p.cursor;
@@ -218,6 +235,7 @@ pub fn words_of(p: Place) -> [u64; 35]
     let c = cursor_words(cursor);
     let w = inside_words(inside);
     [
+        LAYOUT as u64,
         t[0],
         t[1],
         t[2],
@@ -253,5 +271,9 @@ pub fn words_of(p: Place) -> [u64; 35]
         w[7],
         w[8],
         w[9],
+        0,
+        0,
+        0,
+        0,
     ]
 }

@@ -1,3 +1,4 @@
+-- A coordinate is the low half of its word, signed.
 use borrow.Author.Needs.{needs}
 use mathlib.Core.Path.{ap, _∙_}
 use mir.Syntax.{w32}

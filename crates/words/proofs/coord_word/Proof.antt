@@ -1,3 +1,4 @@
+-- A coordinate made wider has the same pattern, and comes back from the low half.
 use borrow.Author.Needs.{needs}
 use mathlib.Core.Path.{ap, _∙_}
 use Prim.Native.Nat.{ℕ}

@@ -1,3 +1,4 @@
+-- Each coordinate is what its word stands for.
 use borrow.Author.Needs.{needs}
 use mathlib.Core.Path.{_∙_}
 use mir.Syntax.{w32}

@@ -1,11 +1,12 @@
+-- The two nodes and each smaller number come back from their words.
 use borrow.Author.Needs.{needs}
 use mathlib.Core.List.{[], _∷_}
-use Rattle.words.specs.Words.{at, cursorOf}
+use Rattle.words.specs.Words.{at, cursorBy}
 use Rattle.words.proofs.cursor_words.Statement.{statement}
 use Rattle.words.proofs.cursor_words.Tie as tie
 
 returns : tie.Need-returns
-unfolding cursorOf
+unfolding cursorBy
 returns c =
     let x = c .before .before .before .before .before .before .args .c in
     let n = c .before .before .before .entered-words .ensures in

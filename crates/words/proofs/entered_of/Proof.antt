@@ -1,3 +1,4 @@
+-- The origin is what its three words stand for.
 use borrow.Author.Needs.{needs}
 use Rattle.words.proofs.entered_of.Statement.{statement}
 use Rattle.words.proofs.entered_of.Tie as tie

@@ -1,3 +1,4 @@
+-- The origin comes back from its own words, the place from its low half.
 use borrow.Author.Needs.{needs}
 use mathlib.Core.List.{[], _∷_}
 use Rattle.words.specs.Words.{at}

@@ -1,11 +1,12 @@
+-- The origin and each smaller number come back from their words.
 use borrow.Author.Needs.{needs}
 use mathlib.Core.List.{[], _∷_}
-use Rattle.words.specs.Words.{at, insideOf}
+use Rattle.words.specs.Words.{at, insideBy}
 use Rattle.words.proofs.inside_words.Statement.{statement}
 use Rattle.words.proofs.inside_words.Tie as tie
 
 returns : tie.Need-returns
-unfolding insideOf
+unfolding insideBy
 returns c =
     let w = c .before .before .before .before .before .args .w in
     let o = c .before .before .before .coord-words .ensures in

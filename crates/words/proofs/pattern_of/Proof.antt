@@ -1,3 +1,4 @@
+-- A negative number's bits, turned over, are what its pattern lacks to the largest word.
 use native.Mathlib.Omega.{arith}
 use Rattle.words.proofs.Laws.{below, above}
 use Rattle.words.proofs.pattern_of.Statement.{statement}

@@ -1,10 +1,11 @@
+-- Each smaller number is what its word stands for.
 use borrow.Author.Needs.{needs}
-use Rattle.words.specs.Words.{startOf}
+use Rattle.words.specs.Words.{startBy}
 use Rattle.words.proofs.start_of.Statement.{statement}
 use Rattle.words.proofs.start_of.Tie as tie
 
 returns : tie.Need-returns
-unfolding startOf
+unfolding startBy
 returns c =
     rw (
       c .before .before .before .before .low .ensures,

@@ -1,11 +1,12 @@
+-- Each smaller number comes back from its word.
 use borrow.Author.Needs.{needs}
 use mathlib.Core.List.{[], _∷_}
-use Rattle.words.specs.Words.{startOf}
+use Rattle.words.specs.Words.{startBy}
 use Rattle.words.proofs.start_words.Statement.{statement}
 use Rattle.words.proofs.start_words.Tie as tie
 
 returns : tie.Need-returns
-unfolding startOf
+unfolding startBy
 returns c =
     let t = c .before .before .before .before .before .before .args .t in
     let version = c .before .before .before .before .word .ensures in
