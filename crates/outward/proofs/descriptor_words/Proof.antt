@@ -1,3 +1,4 @@
+-- The half entry is told by its number, all else as it stands.
 use borrow.Author.Needs.{needs}
 use Rattle.outward.proofs.descriptor_words.Statement.{statement}
 use Rattle.outward.proofs.descriptor_words.Tie as tie

@@ -1,3 +1,4 @@
+-- A double that is there is read where it stands.
 use borrow.Author.Tests.{lt-ltb, le-ltb}
 use mathlib.Core.Path.{refl, sym}
 use native.Mathlib.Omega.{arith}

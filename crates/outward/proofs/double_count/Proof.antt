@@ -1,3 +1,4 @@
+-- Each map has its own number of doubles, 18 at most.
 use borrow.Author.Needs.{needs}
 use mathlib.Core.Path.{_≡_, refl}
 use native.Mathlib.Omega.{arith}

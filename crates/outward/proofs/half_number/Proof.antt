@@ -1,3 +1,4 @@
+-- One number for each case of the entry.
 use borrow.Author.Needs.{needs}
 use mathlib.Core.Bool.{Bool}
 use mathlib.Core.Path.{_≡_, refl}

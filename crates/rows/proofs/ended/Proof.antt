@@ -1,3 +1,4 @@
+-- A refusal counts only where nothing is filled.
 use borrow.Author.Tests.{eq-eqb, ne-eqb}
 use Rattle.fields.specs.Parse.{when}
 use Rattle.rows.proofs.ended.Statement.{statement}

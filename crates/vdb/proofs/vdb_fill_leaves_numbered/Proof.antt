@@ -1,3 +1,4 @@
+-- The fill's own answer, as a number.
 use borrow.Author.Needs.{needs}
 use Rattle.vdb.proofs.Laws.{fill-refused, fill-filled}
 use Rattle.vdb.proofs.vdb_fill_leaves_numbered.Statement.{statement}

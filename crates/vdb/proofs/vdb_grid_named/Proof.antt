@@ -1,3 +1,4 @@
+-- The answer's words are laid into what was lent, or nothing is.
 use borrow.Author.Needs.{needs}
 use Rattle.answers.specs.Answers.{saysDescriptorAnswer}
 use Rattle.vdb.proofs.Laws.{answers, laid-by}

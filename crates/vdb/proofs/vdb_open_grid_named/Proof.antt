@@ -1,3 +1,4 @@
+-- The words of the opened grid and of its place are laid into what was lent, or nothing is.
 use borrow.Author.Needs.{needs}
 use Rattle.archive.specs.declared.Asked.the-variants as A
 use Rattle.fields.proofs.Laws.{told}
