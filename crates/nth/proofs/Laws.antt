@@ -12,8 +12,8 @@ use Rattle.masks.proofs.Laws.{next-lt, next-from, next-one, next-count, next-no
 use Rattle.values.specs.Values.{isStored, numberOf}
 use Rattle.values.specs.declared.Stored.{Stored}
 use Rattle.values.specs.declared.Stored.the-variants.{Childless}
-use Rattle.records.specs.Inner.{maskBytes, standing}
-use Rattle.records.specs.declared.Inside.{Inside}
+use Rattle.slots.specs.Inner.{maskBytes, standing}
+use Rattle.slots.specs.declared.Inside.{Inside}
 use Rattle.nth.specs.Inner.{storedOf, IsOne, HasOne, BehindOne}
 
 -- Of n places, p is reached, and so many ones are left to pass before that with the number k.

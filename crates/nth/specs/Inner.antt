@@ -8,8 +8,8 @@ use Rattle.masks.specs.Inner.{IsMask}
 use Rattle.values.specs.Values.{numberOf}
 use Rattle.values.specs.declared.Stored.{Stored}
 use Rattle.values.specs.declared.Stored.the-variants.{Every, Active, Childless}
-use Rattle.records.specs.Inner.{maskBytes, standing}
-use Rattle.records.specs.declared.Inside.{Inside}
+use Rattle.slots.specs.Inner.{maskBytes, standing}
+use Rattle.slots.specs.declared.Inside.{Inside}
 
 -- which places of a piece are stored, by the number that a walk keeps
 abbrev pub storedOf : ℕ → Stored

@@ -19,10 +19,13 @@ use Rattle.values.specs.declared.Coding.{Coding}
 use Rattle.tree.specs.Active.{Piece, edgeOf}
 use Rattle.tree.specs.Inner.{recordCount, leafCount}
 use Rattle.tree.proofs.Counting.{total, total-append}
-use Rattle.records.specs.Inner.{maskBytes, nothing, cutOff, isInside, handPiece}
-use Rattle.records.specs.declared.Inside.{Inside}
-use Rattle.records.proofs.Laws.{hand-full, inside-back}
-use Rattle.records.proofs.Levels.{masked}
+use Rattle.slots.specs.Inner.{maskBytes}
+use Rattle.bits.specs.Inner.{nothing, cutOff}
+use Rattle.records.specs.Inner.{isInside, handPiece}
+use Rattle.slots.specs.declared.Inside.{Inside}
+use Rattle.bits.proofs.Laws.{hand-full}
+use Rattle.records.proofs.Pieces.{inside-back}
+use Rattle.slots.proofs.Levels.{masked}
 use Rattle.cursor.specs.Inner.{Stop, toCome, HeldPiece}
 use Rattle.cursor.specs.declared.Cursor.{Cursor}
 use Rattle.skip.specs.Inner.{before, skipFrom}

@@ -17,9 +17,11 @@ use Rattle.values.specs.declared.Stored.{Stored}
 use Rattle.values.specs.declared.Stored.the-variants.{Every, Active, Childless}
 use Rattle.tree.specs.Active.{Record, Piece}
 use Rattle.tree.specs.Inner.{recordCount}
-use Rattle.records.specs.Slots.{Slots, laid}
-use Rattle.records.specs.Inner.{Handed, maskBytes, standing, handPiece}
-use Rattle.records.specs.declared.Inside.{Inside}
+use Rattle.slots.specs.Slots.{Slots, laidFrom}
+use Rattle.slots.specs.Inner.{maskBytes, standing}
+use Rattle.bits.specs.Inner.{Handed}
+use Rattle.records.specs.Inner.{handPiece}
+use Rattle.slots.specs.declared.Inside.{Inside}
 use Rattle.cursor.specs.Inner.{Stop, betweenRoots, toCome, pieceOf, HeldPiece}
 use Rattle.cursor.specs.declared.Cursor.{Cursor}
 use Rattle.cursor.specs.declared.NextPiece.{NextPiece}
@@ -119,7 +121,7 @@ pub record Walks (a : Course) (before after : Slots) (r : Stand) : Type 0 where
   pub cursor : r .cursor ≡ a .cursor
   pub inside : r .inside ≡ a .inside
   pub filled : r .filled ≡ length (a .records)
-  pub slots : after ≡ laid before 0 (a .records)
+  pub slots : after ≡ laidFrom before 0 (a .records)
 
 -- The place of a walk after m records.
 unfoldable pub placeFrom : List ℕ → Start → ℕ → Place

@@ -5,16 +5,19 @@ use mathlib.Core.Bool.{Bool, true, false, cond}
 use Prim.Native.Nat.{ℕ, zero, suc, _+_, _-_, _*_, _≤_, _<_}
 use native.Mathlib.Nat.{suc-add, zero-add}
 use native.Mathlib.Omega.{arith}
-use lib.Dec.{leb, ltb}
+use lib.Dec.{ltb, leb}
 use lib.ListN.{length}
 use borrow.Author.Tests.{leb-true}
 use Rattle.fields.specs.Parse.{when}
 use Rattle.masks.specs.Masks.{maskBit}
 use Rattle.values.specs.declared.Coding.{Coding}
 use Rattle.tree.specs.Active.{Record}
-use Rattle.records.specs.Inner.{maskBytes, roomOf, isKept, standing, recordHere, Handed, nothing, andThen, follow, handOut, isInside, handPiece}
-use Rattle.records.specs.declared.Inside.{Inside}
-use Rattle.records.proofs.Laws.{hand-keeps, IsInside, inside-back, by-origin}
+use Rattle.slots.specs.Inner.{maskBytes, roomOf, standing}
+use Rattle.records.specs.Inner.{isInside, handPiece, follow}
+use Rattle.bits.specs.Inner.{isKept, recordHere, Handed, nothing, andThen, handOut}
+use Rattle.slots.specs.declared.Inside.{Inside}
+use Rattle.records.proofs.Laws.{hand-keeps}
+use Rattle.records.proofs.Pieces.{IsInside, inside-back, by-origin}
 
 -- h is handed out where m records are wanted, and H where more are. Either h has m, and H is h and then the rest from where h stopped; or h has
 -- fewer, and more slots change nothing.

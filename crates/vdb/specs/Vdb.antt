@@ -4,7 +4,7 @@ use mathlib.Core.Path.{_≡_}
 use mathlib.Core.List.{List, [], _∷_}
 use Rattle.archive.specs.Answer.{Answer, gives, refuses}
 use Rattle.grid.specs.declared.OpenedGrid.{OpenedGrid}
-use Rattle.records.specs.Slots.{Slots}
+use Rattle.slots.specs.Slots.{Slots}
 use Rattle.walk.specs.Walk.{saysWalk, Promise}
 use Rattle.walk.specs.declared.Walked.{Walked}
 use Rattle.walk.specs.declared.WalkAnswer.{WalkAnswer}

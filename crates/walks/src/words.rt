@@ -5,7 +5,7 @@ use cursor::Cursor;
 use cursor::Entered;
 use place::Place;
 use place::Start;
-use records::Inside;
+use slots::Inside;
 use values::Coding;
 
 pub const COUNT: usize = 35;

@@ -7,7 +7,7 @@ use Rattle.fields.specs.Le.{signed}
 use Rattle.coordinates.specs.declared.GlobalCoord.{GlobalCoord}
 use Rattle.cursor.specs.declared.Cursor.{Cursor}
 use Rattle.cursor.specs.declared.Entered.{Entered}
-use Rattle.records.specs.declared.Inside.{Inside}
+use Rattle.slots.specs.declared.Inside.{Inside}
 use Rattle.place.specs.declared.Start.{Start}
 use Rattle.place.specs.declared.Place.{Place}
 

@@ -8,7 +8,7 @@ use cursor::Cursor;
 use cursor::Entered;
 use place::Place;
 use place::Start;
-use records::Inside;
+use slots::Inside;
 use values::Coding;
 
 // A signed number's pattern in two's complement.

@@ -4,9 +4,11 @@ use mathlib.Core.Path.{sym, _∙_}
 use Prim.Native.Nat.{_*_, _<_}
 use native.Mathlib.Omega.{arith}
 use borrow.Author.Tests.{not-true, not-false}
-use Rattle.records.specs.Inner.{maskBytes}
-use Rattle.records.proofs.Levels.{level-small}
-use Rattle.records.proofs.Laws.{same, fills-same, piece-passed, piece-none, piece-there, piece-readable, piece-masks, inside-back, IsInside}
+use Rattle.slots.specs.Inner.{maskBytes}
+use Rattle.slots.proofs.Levels.{level-small}
+use Rattle.slots.proofs.Laws.{same}
+use Rattle.bits.proofs.Laws.{fills-same}
+use Rattle.records.proofs.Pieces.{piece-passed, piece-none, piece-there, piece-readable, piece-masks, inside-back, IsInside}
 use Rattle.records.proofs.fill_piece.Statement.{statement}
 use Rattle.records.proofs.fill_piece.Tie as tie
 

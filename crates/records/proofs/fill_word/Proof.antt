@@ -5,10 +5,11 @@ use mathlib.Core.Bool.{true}
 use Prim.Native.Nat.{ℕ, _+_, _≤_, _<_}
 use native.Mathlib.Omega.{arith}
 use Rattle.masks.specs.Masks.{digit}
-use Rattle.records.proofs.Levels.{masked}
-use Rattle.records.proofs.Laws.{starts, ends-so, room-less}
-use Rattle.records.proofs.Runs.{full-there, all-ones, run-inside, word-whole, run-fills}
-use Rattle.records.proofs.Ones.{leaf-there}
+use Rattle.slots.proofs.Levels.{masked}
+use Rattle.bits.proofs.Laws.{starts, ends-so}
+use Rattle.slots.proofs.Laws.{room-less}
+use Rattle.records.proofs.Ways.{full-there, leaf-there}
+use Rattle.records.proofs.Runs.{all-ones, run-inside, word-whole, run-fills}
 use Rattle.records.proofs.fill_word.Statement.{statement}
 use Rattle.records.proofs.fill_word.Tie as tie
 
@@ -17,10 +18,10 @@ module _ (c : tie.Then1) where
   abbrev start : tie.Start
   start = c .before .before .before .before .before .before
 
-  full : let a = start .args in (a .word .value ≡ 18446744073709551615) × (a .slot + 64 ≤ a .limit) × (a .word .inside .number + 64 ≤ a .room)
+  full : let a = start .args in (a .word .ones ≡ 18446744073709551615) × (a .slot + 64 ≤ a .limit) × (a .word .inside .number + 64 ≤ a .room)
   full = full-there _ _ _ _ (sym (c .before .is-full .ensures) ∙ c .if1 .taken)
 
-  active : (q : ℕ) → q < 64 → digit (start .args .word .value) q ≡ true
+  active : (q : ℕ) → q < 64 → digit (start .args .word .ones) q ≡ true
   active q h = all-ones _ q (full .0) h
 
   inside : 64 ≤ start .args .word .left

@@ -5,10 +5,13 @@ use mathlib.Core.Bool.{true}
 use Prim.Native.Nat.{_+_, _-_, _*_, _%_, _<_, _≤_}
 use native.Mathlib.Omega.{arith}
 use borrow.Author.Tests.{not-true, not-false}
-use Rattle.records.specs.Slots.{slotsOf}
-use Rattle.records.specs.Inner.{Room, handOut, Readable, Masks}
-use Rattle.records.proofs.Laws.{Going, Same, same, part-on, starts, ends, ends-so, fills-same, room-same, hand-full}
-use Rattle.records.proofs.Laws.{hand-readable, hand-masks, hand-done, run-is, word-on, word-cut, word-passed}
+use Rattle.slots.specs.Slots.{slotsOf}
+use Rattle.slots.specs.Inner.{Room, Readable}
+use Rattle.bits.specs.Inner.{handOut}
+use Rattle.records.specs.Inner.{Masks}
+use Rattle.bits.proofs.Laws.{Going, starts, ends, ends-so, fills-same, hand-full, run-is}
+use Rattle.slots.proofs.Laws.{Same, same, room-same}
+use Rattle.records.proofs.Laws.{part-on, hand-readable, hand-masks, hand-done, word-on, word-cut, word-passed}
 use Rattle.records.proofs.fill_words.Statement.{statement}
 use Rattle.records.proofs.fill_words.Tie as tie
 

@@ -2,7 +2,7 @@
 use borrow.Author.Needs.{needs}
 use mathlib.Core.Path.{refl}
 use native.Mathlib.Omega.{arith}
-use Rattle.records.proofs.Laws.{bits-from}
+use Rattle.records.proofs.Runs.{bits-from}
 use Rattle.records.proofs.word_at.Statement.{statement}
 use Rattle.records.proofs.word_at.Tie as tie
 
