@@ -199,17 +199,17 @@ module _ (table s : List ℕ) (c : Coding) (room : ℕ) (b : Bits) (h : Readable
       one-inside = omega (arith, gap-inside s (at p k) rest some-set)
 
       pub one-more :
-          (limit i q n : ℕ) → i < limit → q ≡ p + trailingZeros 64 (b .ones / 2 ^ p) → n ≡ k + 1 → {o : GlobalCoord} {v : ℕ} →
-          o ≡ globalOf 8 1 (b .inside .origin) (index (b .inside .from + q)) → v ≡ storedValue s (c .width) (b .inside .start + numberIn (b .inside) q k * c .width) →
+          (limit i q n : ℕ) → i < limit → q ≡ p + trailingZeros 64 (b .ones / 2 ^ p) → n ≡ k + 1 → {o : GlobalCoord} {v m : ℕ} →
+          o ≡ globalOf 8 1 (b .inside .origin) (index (b .inside .from + q)) → m ≡ numberIn (b .inside) q k → v ≡ storedValue s (c .width) (b .inside .start + m * c .width) →
           handWord s c (limit - i) (at p k) ≡ andThen (recordOf o 0 v) (handWord s c (limit - (i + 1)) (at (q + 1) n))
-      one-more limit i q n l here count {o} {v} d e =
+      one-more limit i q n l here count {o} {v} d f e =
           let g = trailingZeros 64 (b .ones / 2 ^ p) in
           let r = at q k in
           let reached : r ≡ shifted (at p k) g =
           ap (λ (x : ℕ). at x k) here ∙ ap (past b (p + g)) (sym (number-on (b .inside) p k (leaf .stored) (b .children / 2 ^ p) g)) ∙ sym (past-past b p (numberIn (b .inside) p k) g _) in
           let next : at (q + 1) n ≡ pastActive r 1 =
           ap (at (q + 1)) count ∙ ap (past b (q + 1)) (sym (number-next (b .inside) q k)) ∙ sym (past-past b q (numberIn (b .inside) q k) 1 _) in
-          let m : numberIn (b .inside) q k < room = omega (arith, number-le (b .inside) q k (omega arith), one-inside, leaf .values) in
+          let in-file : numberIn (b .inside) q k < room = omega (arith, number-le (b .inside) q k (omega arith), one-inside, leaf .values) in
           let corner = d ∙ ap (λ (n : ℕ). globalOf (edgeOf n) (sideOf n) (b .inside .origin) (index (b .inside .from + q))) (sym (leaf .level)) in
-          turn-one table s c room (at p k) r readable rest some-set reached limit i l m
-          (ap (λ (n : ℕ). recordOf o n v) (sym (leaf .level)) ∙ record-is s c (r .inside) corner e) next
+          turn-one table s c room (at p k) r readable rest some-set reached limit i l in-file
+          (ap (λ (n : ℕ). recordOf o n v) (sym (leaf .level)) ∙ record-is s c (r .inside) corner (rw f at e)) next

@@ -33,16 +33,8 @@ complement (suc q) (suc k) x b h e d =
     let later = complement q k (x / 2) (b / 2) (omega arith) (omega (arith, pow-suc 2 k, pow-pos k)) in
     rw (← one-add q, ← digit-shift b 1 q) (later (digit-shift x 1 q ∙ rw (one-add q) d))
 
--- the ones from the lowest bit on are counted as zeros of the complement
-abbrev pub other : ℕ → ℕ
-other b = 18446744073709551615 - b
-
-module _ (b : ℕ) (small : b < 2 ^ 64) where
-  pub ones-there : (q : ℕ) → q < trailingZeros 64 (other b) → digit b q ≡ true
-  ones-there q h = complement q 64 (other b) b (omega (arith, trailing-le 64 (other b))) (omega arith) (trailing-zero 64 (other b) q h)
-
 pub all-ones : (b q : ℕ) → b ≡ 18446744073709551615 → q < 64 → digit b q ≡ true
-all-ones b q e h = rw e (ones-there 18446744073709551615 (lit< tt) q (rw (trailing-of-zero 64) h))
+all-ones b q e h = rw e (complement q 64 0 18446744073709551615 h refl (digit-past 0 0 q (omega arith) (omega arith)))
 
 -- The next n places are active, with values in the file: their records, and then what is handed out from behind them.
 pub hand-run :
@@ -88,10 +80,3 @@ pub run-fills :
     (s : List ℕ) (c : Coding) (w : Inside) (n : ℕ) {i : ℕ} {t t′ : Slots} → t′ ≡ laidFrom t i (runOf s c w n) →
     Fills i (handedRun s c w n) t t′ (record { inside = standing w (w .from + n) (w .number + n); filled = i + n; whole = true })
 run-fills s c w n e = record { inside = refl; filled = rw length-run; whole = refl; slots = e }
-
--- the bits of a mask's word from bit r on
-pub bits-from : (f : ℕ → Bool) (i p w x : ℕ) → IsWord f (8 * i) w → x ≡ w / 2 ^ (p % 64) → i ≡ p / 64 * 8 → AreBits f p (64 - p % 64) x
-bits-from f i p w x h e d =
-    let l : 8 * i + p % 64 ≡ p = omega arith in
-    let a = bits-past (p % 64) (omega arith) (record { below = h .below; bits = h .bits }) in
-    rw e (subst (λ (q : ℕ). AreBits f q (64 - p % 64) (w / 2 ^ (p % 64))) l a)

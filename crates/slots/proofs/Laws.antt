@@ -35,16 +35,6 @@ module _ (t t′ : Slots) (i : ℕ) (r : Record) (e : t′ ≡ put t i r) where
         in-value = simp length-set (h .in-value);
       }
 
-  pub put-room : {n : ℕ} → Room n t → Room n t′
-  put-room h =
-      rw e record {
-        in-x = simp length-set (h .in-x);
-        in-y = simp length-set (h .in-y);
-        in-z = simp length-set (h .in-z);
-        in-level = simp length-set (h .in-level);
-        in-value = simp length-set (h .in-value);
-      }
-
 pub room-less : {n m : ℕ} (t : Slots) → m ≤ n → Room n t → Room m t
 room-less t l h =
     record {
@@ -64,6 +54,9 @@ room-same h g =
       in-level = rw (h .in-level) (g .in-level);
       in-value = rw (h .in-value) (g .in-value);
     }
+
+pub put-room : (t t′ : Slots) (i : ℕ) (r : Record) → t′ ≡ put t i r → {n : ℕ} → Room n t → Room n t′
+put-room t t′ i r e h = room-same (put-same t t′ i r e (same t)) h
 
 pub laid-append : (t : Slots) (i : ℕ) (us vs : List Record) → laidFrom t i (us ++ vs) ≡ laidFrom (laidFrom t i us) (i + length us) vs
 unfolding laidFrom

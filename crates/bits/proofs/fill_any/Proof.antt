@@ -1,4 +1,5 @@
 -- The invariant: what is left to hand out from here is the whole.
+use borrow.Author.Needs.{needs}
 use mathlib.Core.Path.{_≡_, refl, ap, _∙_}
 use mathlib.Core.Logic.{⊎-elim}
 use mathlib.Core.Bool.{true}
@@ -22,22 +23,34 @@ Inv-loop table s c room slot limit x₀ y₀ z₀ level₀ value₀ b₀ at₀ w
 abbrev μ-loop : tie.MeasureT-loop
 μ-loop table s c room slot limit x₀ y₀ z₀ level₀ value₀ b₀ at₀ whole₀ x y z level value b at whole = limit - at
 
--- what is known once the next active place is reached
-there :
-    (c : tie.After-to-active Inv-loop μ-loop) → let a = c .before .before .before .before .before .before .before .before .before .args in
-    Active (a .table .now) (a .s .now) (a .c) (a .room) (c .to-active .result)
-there c =
-    let l = c .before .before .before .before .loop in
-    active-there _ _ _ _ (l .b) _ (l .inv .0) (l .inv .1) (c .before .if1 .left) (c .to-active .ensures)
+-- back from the next active place to its turn of the loop, and from there to the function's start
+abbrev turn : tie.After-to-active Inv-loop μ-loop → tie.At-loop Inv-loop μ-loop
+turn c = c .before .before .before .before
 
--- and from behind it
-abbrev reached : tie.After-past-active Inv-loop μ-loop → tie.After-to-active Inv-loop μ-loop
-reached c = c .before .before .before .before .before .before .before .before .before .before .before .before .before .before .before .before .before .before .before
+abbrev start : tie.At-loop Inv-loop μ-loop → tie.Start Inv-loop μ-loop
+start c = c .before .before .before .before .before
+
+-- back from where its record's corner is known to that place, from where the record is put to there, and from behind that
+abbrev reached : tie.After-corner Inv-loop μ-loop → tie.After-to-active Inv-loop μ-loop
+reached c = c .before .before .before .before .before
+
+abbrev cornered : tie.After-put-record Inv-loop μ-loop → tie.After-corner Inv-loop μ-loop
+cornered c = c .before .before .before .before .before .before
+
+abbrev written : tie.After-slice-known4 Inv-loop μ-loop → tie.After-put-record Inv-loop μ-loop
+written c = c .before .before .before .before .before .before .before
+
+-- what is known once the next active place is reached
+there : (c : tie.After-to-active Inv-loop μ-loop) → let a = start (turn c) .args in Active (a .table .now) (a .s .now) (a .c) (a .room) (c .to-active .result)
+there c =
+    let l = turn c .loop in
+    active-there _ _ _ _ (l .b) _ (l .inv .0) (l .inv .1) (c .before .if1 .left) (c .to-active .ensures)
 
 stored-with-requires : tie.Need-stored-with-requires Inv-loop μ-loop
 stored-with-requires c κs =
-    let a = there (c .before .before .before) in
-    let w = c .before .before .before .to-active .result .inside in
+    let t = c .before .before .before in
+    let a = there t in
+    let w = t .to-active .result .inside in
     let m = masked (w .level) in (
       a .readable .subnormals,
       a .readable .width,
@@ -49,34 +62,34 @@ stored-with-requires c κs =
 
 loop-again : tie.Need-loop-again Inv-loop μ-loop
 loop-again c =
-    let t = reached c in
-    let l = t .before .before .before .before .loop in
+    let u = written (c .before) in
+    let o = cornered u in
+    let t = reached o in
+    let l = turn t .loop in
     let a = there t in
-    let o = c .before .before .before .before .before .before .before .before .before .before .before .before .before .before in
-    let n = o .before in
-    let w = c .before .before .before .before .before .before .before .before .put-record .ensures in (
-      rw (c .past-active .ensures) (readable-past _ _ _ _ (t .to-active .result) 1 (a .readable)),
-      rw (c .past-active .ensures) (word-past _ (t .to-active .result) (a .word) 1 _ (a .some-left)),
+    let r = t .to-active in
+    let w = u .put-record .ensures in (
+      rw (c .past-active .ensures) (readable-past _ _ _ _ (r .result) 1 (a .readable)),
+      rw (c .past-active .ensures) (word-past _ (r .result) (a .word) 1 _ (a .some-left)),
       put-room _ _ _ _ w (l .inv .2),
       put-same _ _ _ _ w (l .inv .3),
       l .inv .4,
-      goes (l .inv .5) (turn-one _ _ _ _ (l .b) (t .to-active .result) (l .inv .0) (l .inv .1) (t .before .if1 .left) (t .to-active .ensures) _ (l .at)
-          (t .before .before .before .loop-test .taken) (n .before .if2 .left)
-          (record-is _ _ (t .to-active .result .inside) (o .corner .ensures) (n .stored-with .ensures))
+      goes (l .inv .5) (turn-one _ _ _ _ (l .b) (r .result) (l .inv .0) (l .inv .1) (t .before .if1 .left) (r .ensures) _ (l .at)
+          (t .before .before .before .loop-test .taken) (o .before .before .if2 .left)
+          (record-is _ _ (r .result .inside) (o .corner .ensures) (o .before .stored-with .ensures))
           (c .past-active .ensures)) w,
     )
 
 returns : tie.Need-returns Inv-loop μ-loop
 returns c =
     let l = c .before .before .loop in
-    let z = c .before .loop-test in
     ⊎-elim
     (λ t. ends (l .inv .5) (hand-full _ _ _ _ _ _ (omega (arith, t .0 .left))) (run-is (ap (λ (b : Bits). b .inside) (t .1)) (t .2 ∙ l .inv .4)))
     (λ t. ⊎-elim
     (λ t. ends (l .inv .5) (hand-none _ (l .b) (l .inv .1) _ _ (omega (arith, t .0 .taken)) (t .2 .taken)) (run-is (ap (λ (b : Bits). b .inside) (t .4) ∙ t .3 .ensures) (t .5 ∙ l .inv .4)))
     (λ t. ends (l .inv .5) (turn-cut _ _ _ _ (l .b) _ (l .inv .0) (l .inv .1) (t .2 .left) (t .3 .ensures) _ _ (t .0 .taken) (t .6 .taken)) (run-is (ap (λ (b : Bits). b .inside) (t .7)) (t .8)))
     t)
-    (z .came)
+    (c .before .loop-test .came)
 
 pub fill-any-spec : {M : Type 1} → statement M
 fill-any-spec =
@@ -89,16 +102,10 @@ fill-any-spec =
     (λ c κs. let l = c .before .before .before .loop in (sums-fit _ _ _ _ (l .b) (l .inv .0) (l .inv .1), l .inv .1 .value-bits .below, c .if1 .left))
     stored-with-requires
     (λ c κs. let a = there (c .before .before .before .before) in (omega (arith, a .word .places, a .some-left), a .readable .multiple))
-    (λ c κs. let t = c .before .before .before .before .before .before .before .before .before .before in room-less _ (omega arith) (t .before .before .before .before .loop .inv .2))
-    (λ c κs.
-    let a = there (c .before .before .before .before .before .before .before .before .before .before .before .before .before .before .before .before .before .before) in
-    (sums-fit _ _ _ _ _ (a .readable) (a .word), a .some-left))
-    (λ c. let t = reached c in omega (arith, t .before .before .before .loop-test .taken, t .before .before .before .before .before .before .before .before .before .good))
-    (λ c. let t = reached c in omega (arith, t .before .before .before .loop-test .taken))
+    (λ c κs. let t = reached (c .before .before .before .before .before) in room-less _ (omega arith) (turn t .loop .inv .2))
+    (λ c κs. let a = there (reached (cornered (written c))) in (sums-fit _ _ _ _ _ (a .readable) (a .word), a .some-left))
+    (λ c. let t = reached (cornered (written (c .before))) in omega (arith, t .before .before .before .loop-test .taken, start (turn t) .fits .limit))
+    (λ c. let t = reached (cornered (written (c .before))) in omega (arith, t .before .before .before .loop-test .taken))
     loop-again
-    (λ c. c .before .before .loop .inv .3 .in-x)
-    (λ c. c .before .before .loop .inv .3 .in-y)
-    (λ c. c .before .before .loop .inv .3 .in-z)
-    (λ c. c .before .before .loop .inv .3 .in-level)
-    (λ c. c .before .before .loop .inv .3 .in-value)
+    (λ c. search needs) (λ c. search needs) (λ c. search needs) (λ c. search needs) (λ c. search needs)
     returns)

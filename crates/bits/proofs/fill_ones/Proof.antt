@@ -1,4 +1,5 @@
 -- The invariant: what is left to hand out from here is the whole.
+use borrow.Author.Needs.{needs}
 use mathlib.Core.Path.{_≡_, refl, sym, ap, _∙_}
 use Prim.Native.Nat.{ℕ, _+_, _-_, _*_, _/_, _^_, _<_, _≤_}
 use native.Mathlib.Nat.{zero-mul, lt-of-le-of-lt, div-mul-le-self}
@@ -63,14 +64,24 @@ module _ (c : tie.Else1 Inv-loop μ-loop) where
   on : p ≤ q
   on = omega (arith, reached)
 
+-- back from where the next one's corner is known to where it was found, from where its record is put to there, and from behind that
+abbrev found : tie.After-corner Inv-loop μ-loop → tie.Else1 Inv-loop μ-loop
+found c = c .before .before .before .before
+
+abbrev cornered : tie.After-put-record Inv-loop μ-loop → tie.After-corner Inv-loop μ-loop
+cornered c = c .before .before .before .before .before .before
+
+abbrev written : tie.After-slice-known4 Inv-loop μ-loop → tie.After-put-record Inv-loop μ-loop
+written c = c .before .before .before .before .before .before .before
+
 abbrev turned : tie.After-past-lowest Inv-loop μ-loop → tie.Else1 Inv-loop μ-loop
-turned c = c .before .before .before .before .before .before .before .before .before .before .before .before .before .before .before .before .before .before
+turned c = found (cornered (written (c .before)))
 
 returns : tie.Need-returns Inv-loop μ-loop
 returns c =
-    let l = c .before .before .before in
-    let s = start l in
     let t = c .before in
+    let l = t .before .before in
+    let s = start l in
     ends (l .loop .inv .6) (done _ _ _ _ (s .args .word) (s .pre .0) (s .pre .1) (s .pre .2) (l .loop .p) _ (l .loop .inv .2) (l .loop .inv .0) _ _ (t .before .loop-test .taken) (sym (l .loop .inv .3) ∙ t .if1 .taken)) (run-is (c .stand .ensures) refl)
 
 stored-with-requires : tie.Need-stored-with-requires Inv-loop μ-loop
@@ -86,11 +97,12 @@ stored-with-requires c κs =
 
 loop-again : tie.Need-loop-again Inv-loop μ-loop
 loop-again c =
-    let t = turned c in
+    let u = written (c .before) in
+    let o = cornered u in
+    let t = found o in
     let s = start (l t) in
     let i = l t .loop in
-    let w = c .before .before .before .before .before .before .before .before .put-record .ensures in
-    let o = c .before .before .before .before .before .before .before .before .before .before .before .before .before .before in (
+    let w = u .put-record .ensures in (
       omega (arith, inside t),
       omega (arith, i .inv .1),
       omega (arith, on t, i .inv .2, i .inv .1),
@@ -98,7 +110,7 @@ loop-again c =
       put-room _ _ _ _ w (i .inv .4),
       put-same _ _ _ _ w (i .inv .5),
       goes (i .inv .6) (one-more _ _ _ _ (b t) (s .pre .0) (s .pre .1) (s .pre .2) (p t) (k t) (i .inv .2) (i .inv .0) (some-set t) _ (i .i) (q t) _
-          (t .before .loop-test .taken) (reached t) (omega (arith, i .inv .1)) (o .corner .ensures) (rw (o .before .before .before .number-behind .ensures) at (o .before .before .stored-with .ensures))) w,
+          (t .before .loop-test .taken) (reached t) (omega (arith, i .inv .1)) (o .corner .ensures) (o .before .before .before .number-behind .ensures) (o .before .before .stored-with .ensures)) w,
     )
 
 pub fill-ones-spec : {M : Type 1} → statement M
@@ -110,30 +122,22 @@ fill-ones-spec =
     (λ c. let s = c .before .before .before .before .before in
     let z : s .args .slot - s .args .slot ≡ 0 = omega arith in
     (omega arith, omega arith, omega arith, omega arith, s .pre .3, same _, begins _ _ _ _ (s .args .word) _ z))
-    (λ c. c .before .before .loop .inv .1)
-    (λ c κs. let s = start (c .before .before) in (s .pre .0 .number, few-places s, omega (arith, c .before .before .loop .inv .2, c .before .before .loop .inv .0)))
-    (λ c. c .before .before .before .loop .inv .5 .in-x)
-    (λ c. c .before .before .before .loop .inv .5 .in-y)
-    (λ c. c .before .before .before .loop .inv .5 .in-z)
-    (λ c. c .before .before .before .loop .inv .5 .in-level)
-    (λ c. c .before .before .before .loop .inv .5 .in-value)
+    (λ c. search needs)
+    (λ c κs. let l = c .before .before in (start l .pre .0 .number, few-places (start l), omega (arith, l .loop .inv .2, l .loop .inv .0)))
+    (λ c. search needs) (λ c. search needs) (λ c. search needs) (λ c. search needs) (λ c. search needs)
     returns
-    (λ c. c .before .before .loop .inv .1)
+    (λ c. search needs)
     (λ c κs. let s = start (l c) in (omega (arith, inside c, few-places s, s .pre .0 .number), omega (arith, on c, l c .loop .inv .2)))
     stored-with-requires
     (λ c. let t = c .before .before .before in omega (arith, inside t, few-places (start (l t))))
     (λ c κs. let t = c .before .before .before in let s = start (l t) in (omega (arith, inside t, few-places s), leaf-multiple _ _ _ _ _ (s .pre .0) (s .pre .1) (s .pre .2)))
-    (λ c κs. let t = c .before .before .before .before .before .before .before .before .before in room-less _ (omega (arith, t .before .loop-test .taken)) (l t .loop .inv .4))
-    (λ c κs. let t = c .before .before .before .before .before .before .before .before .before .before .before .before .before .before .before .before .before in (omega (arith, l t .loop .inv .3, div-mul-le-self (b t .ones) (2 ^ p t), ones-small _ _ (start (l t) .pre .1)), t .if1 .left))
+    (λ c κs. let t = found (c .before .before .before .before .before) in room-less _ (omega (arith, t .before .loop-test .taken)) (l t .loop .inv .4))
+    (λ c κs. let t = found (cornered (written c)) in (omega (arith, l t .loop .inv .3, div-mul-le-self (b t .ones) (2 ^ p t), ones-small _ _ (start (l t) .pre .1)), t .if1 .left))
     (λ c. let t = turned c in omega (arith, inside t, few-places (start (l t))))
     (λ c. let t = turned c in omega (arith, t .before .loop-test .taken, start (l t) .fits .limit))
     (λ c. let t = turned c in omega (arith, t .before .loop-test .taken))
     loop-again
-    (λ c. c .before .loop .inv .1)
-    (λ c κs. let s = start (c .before) in (s .pre .0 .number, omega (arith, few-places s, c .before .loop .inv .0), c .before .loop .inv .2))
-    (λ c. c .before .before .loop .inv .5 .in-x)
-    (λ c. c .before .before .loop .inv .5 .in-y)
-    (λ c. c .before .before .loop .inv .5 .in-z)
-    (λ c. c .before .before .loop .inv .5 .in-level)
-    (λ c. c .before .before .loop .inv .5 .in-value)
+    (λ c. search needs)
+    (λ c κs. let l = c .before in (start l .pre .0 .number, omega (arith, few-places (start l), l .loop .inv .0), l .loop .inv .2))
+    (λ c. search needs) (λ c. search needs) (λ c. search needs) (λ c. search needs) (λ c. search needs)
     (λ c. let l = c .before .before in ends (l .loop .inv .6) (hand-full _ _ _ _ _ _ (omega (arith, c .before .loop-test .left))) (run-is (c .stand2 .ensures) refl)))

@@ -8,15 +8,32 @@ use Rattle.slots.proofs.Runs.{laid-ranged}
 use Rattle.slots.proofs.fill_full.Statement.{statement}
 use Rattle.slots.proofs.fill_full.Tie as tie
 
+-- back from the levels to z, y and x, and to the function's start
+abbrev z : tie.After-fill-level → tie.After-fill-axis3
+z c = c .before .before .before
+
+abbrev y : tie.After-fill-axis3 → tie.After-fill-axis2
+y c = c .before .before .before
+
+abbrev x : tie.After-fill-axis2 → tie.After-fill-axis
+x c = c .before .before .before
+
+abbrev start : tie.After-fill-axis → tie.Start
+start c = c .before .before .before .before .before .before
+
+fill-values-requires : tie.Need-fill-values-requires
+fill-values-requires c κs =
+    let s = start (x (y (z (c .before .before .before)))) in
+    let m = masked (s .args .w .level) in
+    (s .pre .0, s .pre .2, omega (arith, s .pre .1, m .small, m .bits), s .pre .3 .in-value)
+
 -- slice by slice
 returns : tie.Need-returns
 returns c =
     let v = c .before .before in
-    let l = v .before .before .before .before in
-    let z = l .before .before .before in
-    let y = z .before .before .before in
-    let x = y .before .before .before in
-    (λ q. slotsOf (x .fill-axis .ensures q) (y .fill-axis2 .ensures q) (z .fill-axis3 .ensures q) (l .fill-level .ensures q) (v .fill-values .ensures q)) ∙ sym (laid-ranged _ _ _ _ _ 64)
+    let l = v .before .before .before .before in (
+      λ q. slotsOf (x (y (z l)) .fill-axis .ensures q) (y (z l) .fill-axis2 .ensures q) (z l .fill-axis3 .ensures q) (l .fill-level .ensures q) (v .fill-values .ensures q)
+    ) ∙ sym (laid-ranged _ _ _ _ _ 64)
 
 pub fill-full-spec : {M : Type 1} → statement M
 fill-full-spec =
@@ -26,13 +43,6 @@ fill-full-spec =
     (λ c κs. search needs)
     (λ c κs. search needs)
     (λ c κs. search needs)
-    (λ c κs.
-    let p = c .before .before .before .before .before .before .before .before .before .before .before .before .before .before .before .before .before .before .pre in
-    let m = masked (c .before .before .before .before .before .before .before .before .before .before .before .before .before .before .before .before .before .before .args .w .level) in
-    (p .0, p .2, omega (arith, p .1, m .small, m .bits), p .3 .in-value))
-    (λ c. search needs)
-    (λ c. search needs)
-    (λ c. search needs)
-    (λ c. search needs)
-    (λ c. search needs)
+    fill-values-requires
+    (λ c. search needs) (λ c. search needs) (λ c. search needs) (λ c. search needs) (λ c. search needs)
     returns)
