@@ -23,8 +23,8 @@ use Rattle.tree.specs.Active.{Record, sideOf, edgeOf}
 use Rattle.slots.specs.Slots.{Slots, put, laidFrom}
 use Rattle.slots.specs.Inner.{recordOf, roomOf, standing, Readable}
 use Rattle.bits.specs.Inner.{isKept, recordHere, Handed, nothing, cutOff, andThen, handOut, skipped, Fills, AreBits, InWord, passed, shifted, past, handWord, SumsFit, pastActive}
-use Rattle.bits.specs.declared.Bits.{Bits}
 use Rattle.slots.specs.declared.Inside.{Inside}
+use Rattle.bits.specs.declared.Bits.{Bits}
 use Rattle.bits.specs.declared.Run.{Run}
 use Rattle.slots.proofs.Levels.{masked}
 use Rattle.slots.proofs.Laws.{readable-on, Same, laid-same}
@@ -79,13 +79,13 @@ hand-full s c limit i w (suc j) h =
 
 -- Places that are not active are passed.
 module _ (s : List ℕ) (c : Coding) (want : ℕ) where
-  step-on : (w : Inside) (j : ℕ) → maskBit s (w .value) (w .from) ≡ false →
+  step-on : (w : Inside) (j : ℕ) → maskBit s (w .«value_mask») (w .from) ≡ false →
       handOut s c (suc want) w (suc j) ≡ handOut s c (suc want) (standing w (suc (w .from)) (w .number + cond (isKept s w (w .from)) 1 0)) j
   unfolding handOut when
   step-on w j e = rw e
 
   pub hand-gap :
-      (z : ℕ) (w : Inside) (j : ℕ) → ((q : ℕ) → q < z → maskBit s (w .value) (w .from + q) ≡ false) →
+      (z : ℕ) (w : Inside) (j : ℕ) → ((q : ℕ) → q < z → maskBit s (w .«value_mask») (w .from + q) ≡ false) →
       handOut s c (suc want) w (z + j) ≡ handOut s c (suc want) (standing w (w .from + z) (w .number + length (onesFrom (isKept s w) (w .from) z))) j
   unfolding isKept
   hand-gap zero w j h = rw (zero-add, add-zero, ones-none (isKept s w) (w .from), add-zero)
@@ -98,20 +98,20 @@ module _ (s : List ℕ) (c : Coding) (want : ℕ) where
       rw suc-add (step-on w (z + j) (rw add-zero at (h 0 (omega arith))) ∙ later ∙ ap₂ (λ (p n : ℕ). handOut s c (suc want) (standing w p n) j) f e)
 
 -- how many of them are stored
-module _ (s : List ℕ) (w : Inside) (b z : ℕ) (none-active : (q : ℕ) → q < z → maskBit s (w .value) (w .from + q) ≡ false)
-    (bits : (q : ℕ) → q < z → digit b q ≡ maskBit s (w .child) (w .from + q)) where
+module _ (s : List ℕ) (w : Inside) (b z : ℕ) (none-active : (q : ℕ) → q < z → maskBit s (w .«value_mask») (w .from + q) ≡ false)
+    (bits : (q : ℕ) → q < z → digit b q ≡ maskBit s (w .«child_mask») (w .from + q)) where
   pub skips : length (onesFrom (isKept s w) (w .from) z) ≡ skipped (w .stored) b z
   unfolding isKept skipped when
   skips = go (eqb (w .stored) 0) (eqb (w .stored) 1)
     where
       child : ℕ → Bool
-      child = maskBit s (w .child)
+      child = maskBit s (w .«child_mask»)
 
       all-kept : length (onesFrom (λ p. true) (w .from) z) ≡ z
       all-kept = omega (arith, length-zeros (λ p. true) z (w .from), ap length (ones-nil (λ p. false) z (w .from) (λ q l h. refl)))
 
-      none-kept : length (onesFrom (maskBit s (w .value)) (w .from) z) ≡ 0
-      none-kept = ap length (ones-nil (maskBit s (w .value)) z (w .from) (λ q l h.
+      none-kept : length (onesFrom (maskBit s (w .«value_mask»)) (w .from) z) ≡ 0
+      none-kept = ap length (ones-nil (maskBit s (w .«value_mask»)) z (w .from) (λ q l h.
           let e : w .from + (q - w .from) ≡ q = omega arith in
           rw e at (none-active (q - w .from) (omega arith))))
 
@@ -121,13 +121,13 @@ module _ (s : List ℕ) (w : Inside) (b z : ℕ) (none-active : (q : ℕ) → q 
           ap length (ones-ext (digit b) (λ q. child (w .from + q)) z 0 (λ q l h. bits q (omega arith))) ∙ rw add-zero at (length-shift child (w .from) z 0) in
           omega (arith, length-zeros child z (w .from), e)
 
-      go : (x y : Bool) → length (onesFrom (λ p. when x true (when y (maskBit s (w .value) p) (not (child p)))) (w .from) z) ≡ when x z (when y 0 (z - countBelow (digit b) z))
+      go : (x y : Bool) → length (onesFrom (λ p. when x true (when y (maskBit s (w .«value_mask») p) (not (child p)))) (w .from) z) ≡ when x z (when y 0 (z - countBelow (digit b) z))
       go true y = all-kept
       go false true = none-kept
       go false false = childless
 
 -- An active place: its record, or its value lies past the end.
-module _ (s : List ℕ) (c : Coding) (want : ℕ) (w : Inside) (j : ℕ) (active : maskBit s (w .value) (w .from) ≡ true) where
+module _ (s : List ℕ) (c : Coding) (want : ℕ) (w : Inside) (j : ℕ) (active : maskBit s (w .«value_mask») (w .from) ≡ true) where
   pub handed-one :
       w .number < roomOf s c (w .start) →
       handOut s c (suc want) w (suc j) ≡ andThen (recordHere s c w) (handOut s c want (standing w (suc (w .from)) (suc (w .number))) j)
@@ -163,7 +163,7 @@ module _ (s : List ℕ) (b : Bits) (word : InWord s b) where
       let w = b .inside in
       let n : want ≡ suc (want - 1) = omega arith in
       let k : b .left ≡ z + (b .left - z) = omega arith in
-      let none-active : (q : ℕ) → q < z → maskBit s (w .value) (w .from + q) ≡ false = λ q i. sym (word .value-bits .bits q (omega arith)) ∙ clear q i in
+      let none-active : (q : ℕ) → q < z → maskBit s (w .«value_mask») (w .from + q) ≡ false = λ q i. sym (word .value-bits .bits q (omega arith)) ∙ clear q i in
       ap₂ (λ (m i : ℕ). handOut s c m w i) n k ∙ hand-gap s c (want - 1) z w (b .left - z) none-active
       ∙ ap (λ (m : ℕ). handOut s c (suc (want - 1)) (standing w (w .from + z) (w .number + m)) (b .left - z))
       (skips s w (b .children) z none-active (λ q i. word .child-bits .bits q (omega arith)))
@@ -194,7 +194,7 @@ module _ (s : List ℕ) (b : Bits) (word : InWord s b) where
     pub gap-inside : gap < b .left
     gap-inside = inside-word (b .left) (b .ones) (word .value-bits .below) ones-small some-active
 
-    pub word-active : InWord s (shifted b gap) × (maskBit s (b .inside .value) (b .inside .from + gap) ≡ true)
+    pub word-active : InWord s (shifted b gap) × (maskBit s (b .inside .«value_mask») (b .inside .from + gap) ≡ true)
     word-active =
         let l = gap-inside in
         (word-past gap _ (omega arith), sym (word .value-bits .bits gap l) ∙ trailing-one 64 (b .ones) (trailing-lt 64 (b .ones) ones-small some-active))
@@ -205,7 +205,7 @@ module _ (s : List ℕ) (b : Bits) (word : InWord s b) where
         let n : suc (want - 1) ≡ want = omega arith in
         hand-past c want gap h (omega arith) (λ q i. trailing-zero 64 (b .ones) q i) ∙ ap (λ (m : ℕ). handWord s c m (shifted b gap)) n
 
-  module _ (some-left : 0 < b .left) (c : Coding) (want : ℕ) (wanted : 0 < want) (active : maskBit s (b .inside .value) (b .inside .from) ≡ true) where
+  module _ (some-left : 0 < b .left) (c : Coding) (want : ℕ) (wanted : 0 < want) (active : maskBit s (b .inside .«value_mask») (b .inside .from) ≡ true) where
     in-turn : handWord s c want b ≡ handOut s c (suc (want - 1)) (b .inside) (suc (b .left - 1))
     in-turn =
         let n : want ≡ suc (want - 1) = omega arith in
@@ -239,7 +239,7 @@ module _ (table s : List ℕ) (c : Coding) (room : ℕ) where
     pub readable : Readable table s c room (b .inside)
     pub word : InWord s b
     pub some-left : 0 < b .left
-    pub active : maskBit s (b .inside .value) (b .inside .from) ≡ true
+    pub active : maskBit s (b .inside .«value_mask») (b .inside .from) ≡ true
 
   pub active-there :
       (b r : Bits) → Readable table s c room (b .inside) → InWord s b → (b .ones ≡ 0 → ⊥) → r ≡ shifted b (trailingZeros 64 (b .ones)) → Active r

@@ -22,10 +22,10 @@ use Rattle.tree.specs.Active.{sideOf, edgeOf}
 use Rattle.slots.specs.Slots.{Slots}
 use Rattle.slots.specs.Inner.{recordOf, standing, Readable}
 use Rattle.bits.specs.Inner.{nothing, andThen, skipped, InWord, shifted, past, handWord, onesPast, numberIn, pastActive, LeafWord}
-use Rattle.bits.specs.declared.Bits.{Bits}
 use Rattle.slots.specs.declared.Inside.{Inside}
-use Rattle.bits.proofs.Laws.{Going, starts, word-past, hand-none, turn-one, record-is, gap-inside}
+use Rattle.bits.specs.declared.Bits.{Bits}
 use Rattle.slots.proofs.Laws.{readable-on}
+use Rattle.bits.proofs.Laws.{Going, starts, word-past, hand-none, turn-one, record-is, gap-inside}
 
 -- The lowest one is taken off.
 pub lowest-off : (k x : ℕ) → (x ≡ 0 → ⊥) → x < 2 ^ k → bitAnd x (x - 1) ≡ onesPast x (suc (trailingZeros k x))

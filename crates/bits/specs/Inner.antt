@@ -15,13 +15,13 @@ use Rattle.coordinates.specs.Coordinates.{index, globalOf, places}
 use Rattle.tree.specs.Active.{Record, sideOf, edgeOf}
 use Rattle.slots.specs.Slots.{Slots, laidFrom}
 use Rattle.slots.specs.Inner.{roomOf, standing}
-use Rattle.bits.specs.declared.Bits.{Bits}
 use Rattle.slots.specs.declared.Inside.{Inside}
+use Rattle.bits.specs.declared.Bits.{Bits}
 use Rattle.bits.specs.declared.Run.{Run}
 
 -- whether place p is stored: all are, or the active ones, or those without a child
 unfoldable pub isKept : List ℕ → Inside → ℕ → Bool
-isKept s w p = when (eqb (w .stored) 0) true (when (eqb (w .stored) 1) (maskBit s (w .value) p) (not (maskBit s (w .child) p)))
+isKept s w p = when (eqb (w .stored) 0) true (when (eqb (w .stored) 1) (maskBit s (w .«value_mask») p) (not (maskBit s (w .«child_mask») p)))
 
 -- the record of the next place, if it is active
 unfoldable pub recordHere : List ℕ → Coding → Inside → Record
@@ -51,7 +51,7 @@ unfoldable pub handOut : List ℕ → Coding → ℕ → Inside → ℕ → Hand
 handOut s c want w zero = nothing w
 handOut s c zero w (suc j) = nothing w
 handOut s c (suc want) w (suc j) =
-    when (maskBit s (w .value) (w .from))
+    when (maskBit s (w .«value_mask») (w .from))
     (when (ltb (w .number) (roomOf s c (w .start)))
     (andThen (recordHere s c w) (handOut s c want (standing w (suc (w .from)) (suc (w .number))) j))
     (cutOff w))
@@ -73,8 +73,8 @@ pub record AreBits (f : ℕ → Bool) (p j b : ℕ) : Type 0 where
 pub record InWord (s : List ℕ) (b : Bits) : Type 0 where
   pub word : b .left ≤ 64
   pub places : b .inside .from + b .left ≤ places (edgeOf (b .inside .level))
-  pub value-bits : AreBits (maskBit s (b .inside .value)) (b .inside .from) (b .left) (b .ones)
-  pub child-bits : AreBits (maskBit s (b .inside .child)) (b .inside .from) (b .left) (b .children)
+  pub value-bits : AreBits (maskBit s (b .inside .«value_mask»)) (b .inside .from) (b .left) (b .ones)
+  pub child-bits : AreBits (maskBit s (b .inside .«child_mask»)) (b .inside .from) (b .left) (b .children)
 
 abbrev pub handWord : List ℕ → Coding → ℕ → Bits → Handed
 handWord s c want b = handOut s c want (b .inside) (b .left)

@@ -65,9 +65,9 @@ pub fn stand_behind(s: &[u8], w: Inside, k: u32) -> Inside
     ensures { λ r. ⌜ BehindOne (now (s .entry)) w k r ⌝ }
 {
     let n = slots::mask_bytes(w.level);
-    let p = nth_one(s, w.value, n, k);
+    let p = nth_one(s, w.value_mask, n, k);
     let stored = stored_of(w.stored);
-    let number = values::number_of(s, stored, n, w.child, w.value, p);
+    let number = values::number_of(s, stored, n, w.child_mask, w.value_mask, p);
     let mut r = w;
     r.from = p.0 + 1;
     r.number = number + 1;

@@ -48,8 +48,8 @@ abbrev pub entered : Piece → Inside
 entered q = record {
   level = q .level;
   origin = q .origin;
-  child = q .child;
-  value = q .value;
+  «child_mask» = q .child;
+  «value_mask» = q .value;
   stored = storedNumber (q .values .stored);
   start = q .values .start;
   from = 0;
@@ -58,7 +58,7 @@ entered q = record {
 
 -- a walk in no piece: it stands as if behind the last place of a leaf, and nothing of it is read
 abbrev pub nowhere : Inside
-nowhere = record { level = 0; origin = (pos 0, pos 0, pos 0); child = 0; value = 0; stored = 0; start = 0; from = 512; number = 0 }
+nowhere = record { level = 0; origin = (pos 0, pos 0, pos 0); «child_mask» = 0; «value_mask» = 0; stored = 0; start = 0; from = 512; number = 0 }
 
 -- What is handed out, and where the walk stands behind it.
 pub record Course : Type 0 where

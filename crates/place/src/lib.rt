@@ -120,8 +120,8 @@ pub fn fresh(start: Start) -> Place
     let inside = Inside {
         level: 0,
         origin,
-        child: 0,
-        value: 0,
+        child_mask: 0,
+        value_mask: 0,
         stored: 0,
         start: 0,
         from: 512,
@@ -155,8 +155,8 @@ fn enter(q: Piece) -> Inside
     Inside {
         level: q.level,
         origin,
-        child: q.child,
-        value: q.value,
+        child_mask: q.child,
+        value_mask: q.value,
         stored: stored_number(stored),
         start: values.start,
         from: 0,
@@ -305,8 +305,8 @@ fn stand_after(s: &[u8], c: Coding, cursor: Cursor, w: Inside, k: u64) -> Behind
     if !records::is_inside(s, n, w) {
         return Behind::Nothing;
     }
-    let passed = masks::count_ones_below(s, w.value, n, Index(w.from));
-    let left = masks::count_ones(s, w.value, n) - passed;
+    let passed = masks::count_ones_below(s, w.value_mask, n, Index(w.from));
+    let left = masks::count_ones(s, w.value_mask, n) - passed;
     if (left as u64) < k {
         return stand_on(s, c, cursor, k - left as u64);
     }

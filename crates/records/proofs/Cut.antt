@@ -13,8 +13,8 @@ use Rattle.masks.specs.Masks.{maskBit}
 use Rattle.values.specs.declared.Coding.{Coding}
 use Rattle.tree.specs.Active.{Record}
 use Rattle.slots.specs.Inner.{maskBytes, roomOf, standing}
-use Rattle.records.specs.Inner.{isInside, handPiece, follow}
 use Rattle.bits.specs.Inner.{isKept, recordHere, Handed, nothing, andThen, handOut}
+use Rattle.records.specs.Inner.{isInside, handPiece, follow}
 use Rattle.slots.specs.declared.Inside.{Inside}
 use Rattle.records.proofs.Laws.{hand-keeps}
 use Rattle.records.proofs.Pieces.{IsInside, inside-back, by-origin}
@@ -51,10 +51,10 @@ module _ (s : List ℕ) (c : Coding) (k : ℕ) where
   hand-cut-at n zero zero w e = full refl (rw (← e))
   hand-cut-at n zero (suc m) w e = short (omega arith) refl
   hand-cut-at n (suc j) zero w e = full refl (rw (zero-add, ← e))
-  hand-cut-at n (suc j) (suc m) w e = rw suc-add (go (hand-cut-at n j) (maskBit s (w .value) (w .from)) (ltb (w .number) (roomOf s c (w .start))) refl refl)
+  hand-cut-at n (suc j) (suc m) w e = rw suc-add (go (hand-cut-at n j) (maskBit s (w .«value_mask») (w .from)) (ltb (w .number) (roomOf s c (w .start))) refl refl)
     where
       go : ((i : ℕ) (v : Inside) → j ≡ n - v .from → Cut (λ v. handOut s c k v (n - v .from)) i (handOut s c i v j) (handOut s c (i + k) v j)) → (a b : Bool) →
-          maskBit s (w .value) (w .from) ≡ a → ltb (w .number) (roomOf s c (w .start)) ≡ b →
+          maskBit s (w .«value_mask») (w .from) ≡ a → ltb (w .number) (roomOf s c (w .start)) ≡ b →
           Cut (λ v. handOut s c k v (n - v .from)) (suc m) (handOut s c (suc m) w (suc j)) (handOut s c (suc (m + k)) w (suc j))
       go later true true d f = rw (d, f) (with-record (recordHere s c w) (later m _ (omega arith)))
       go later true false d f = rw (d, f) (short (omega arith) refl)

@@ -16,8 +16,8 @@ use Rattle.slots.specs.Slots.{Slots}
 use Rattle.slots.specs.Inner.{roomOf, standing, Readable}
 use Rattle.bits.specs.Inner.{isKept, recordHere, Handed, nothing, andThen, handOut, Fills, handWord}
 use Rattle.records.specs.Inner.{follow, Masks}
-use Rattle.bits.specs.declared.Bits.{Bits}
 use Rattle.slots.specs.declared.Inside.{Inside}
+use Rattle.bits.specs.declared.Bits.{Bits}
 use Rattle.bits.specs.declared.Run.{Run}
 use Rattle.slots.proofs.Laws.{laid-append, readable-on}
 use Rattle.bits.proofs.Laws.{Going, hand-full}
@@ -42,9 +42,9 @@ module _ (s : List ℕ) (c : Coding) (k : ℕ) where
   unfolding handOut when
   hand-parts zero want w = rw (zero-add, sub-zero)
   hand-parts (suc j) zero w = rw suc-add (sym (hand-full s c 0 0 w k (omega arith)))
-  hand-parts (suc j) (suc want) w = rw suc-add (go (hand-parts j) (maskBit s (w .value) (w .from)) (ltb (w .number) (roomOf s c (w .start))) refl refl)
+  hand-parts (suc j) (suc want) w = rw suc-add (go (hand-parts j) (maskBit s (w .«value_mask») (w .from)) (ltb (w .number) (roomOf s c (w .start))) refl refl)
     where
-      go : ((m : ℕ) (v : Inside) → handOut s c m v (j + k) ≡ onward (handOut s c m v j) m) → (a b : Bool) → maskBit s (w .value) (w .from) ≡ a → ltb (w .number) (roomOf s c (w .start)) ≡ b →
+      go : ((m : ℕ) (v : Inside) → handOut s c m v (j + k) ≡ onward (handOut s c m v j) m) → (a b : Bool) → maskBit s (w .«value_mask») (w .from) ≡ a → ltb (w .number) (roomOf s c (w .start)) ≡ b →
           handOut s c (suc want) w (suc (j + k)) ≡ onward (handOut s c (suc want) w (suc j)) (suc want)
       go later true true e d =
           let v = standing w (suc (w .from)) (suc (w .number)) in
@@ -59,10 +59,10 @@ pub hand-past-all :
 unfolding handOut when
 hand-past-all s c zero want w h l = sym (add-zero _)
 hand-past-all s c (suc j) zero w h l = absurd (omega arith)
-hand-past-all s c (suc j) (suc want) w h l = go (hand-past-all s c j) (maskBit s (w .value) (w .from)) (ltb (w .number) (roomOf s c (w .start))) refl refl h l
+hand-past-all s c (suc j) (suc want) w h l = go (hand-past-all s c j) (maskBit s (w .«value_mask») (w .from)) (ltb (w .number) (roomOf s c (w .start))) refl refl h l
   where
     go : ((m : ℕ) (v : Inside) → handOut s c m v j .whole ≡ true → length (handOut s c m v j .records) < m → handOut s c m v j .inside .from ≡ v .from + j) → (a b : Bool) →
-        maskBit s (w .value) (w .from) ≡ a → ltb (w .number) (roomOf s c (w .start)) ≡ b → handOut s c (suc want) w (suc j) .whole ≡ true →
+        maskBit s (w .«value_mask») (w .from) ≡ a → ltb (w .number) (roomOf s c (w .start)) ≡ b → handOut s c (suc want) w (suc j) .whole ≡ true →
         length (handOut s c (suc want) w (suc j) .records) < suc want → handOut s c (suc want) w (suc j) .inside .from ≡ w .from + suc j
     go later true true e d h l =
         let n : w .from + suc j ≡ suc (w .from) + j = omega arith in
@@ -94,9 +94,9 @@ pub hand-keeps :
 unfolding handOut when
 hand-keeps s c P step zero want w h = h
 hand-keeps s c P step (suc j) zero w h = h
-hand-keeps s c P step (suc j) (suc want) w h = go (hand-keeps s c P step j) (maskBit s (w .value) (w .from)) (ltb (w .number) (roomOf s c (w .start))) refl refl
+hand-keeps s c P step (suc j) (suc want) w h = go (hand-keeps s c P step j) (maskBit s (w .«value_mask») (w .from)) (ltb (w .number) (roomOf s c (w .start))) refl refl
   where
-    go : ((m : ℕ) (v : Inside) → P v → P (handOut s c m v j .inside)) → (a b : Bool) → maskBit s (w .value) (w .from) ≡ a → ltb (w .number) (roomOf s c (w .start)) ≡ b →
+    go : ((m : ℕ) (v : Inside) → P v → P (handOut s c m v j .inside)) → (a b : Bool) → maskBit s (w .«value_mask») (w .from) ≡ a → ltb (w .number) (roomOf s c (w .start)) ≡ b →
         P (handOut s c (suc want) w (suc j) .inside)
     go later true true e d = rw (e, d) (later want _ (step w _ (omega arith) h))
     go later true false e d = rw (e, d) h

@@ -14,8 +14,8 @@ use Rattle.coordinates.proofs.Axis.{and-both}
 use Rattle.tree.specs.Active.{sideOf, edgeOf}
 use Rattle.slots.specs.Slots.{Slots, laidFrom}
 use Rattle.slots.specs.Inner.{maskBytes, Readable}
-use Rattle.records.specs.Inner.{isInside, handPiece, Masks}
 use Rattle.bits.specs.Inner.{handOut, Fills}
+use Rattle.records.specs.Inner.{isInside, handPiece, Masks}
 use Rattle.slots.specs.declared.Inside.{Inside}
 use Rattle.bits.specs.declared.Run.{Run}
 use Rattle.slots.proofs.Levels.{masked}
@@ -25,26 +25,26 @@ module _ (s : List ℕ) (w : Inside) where
   abbrev bytes : ℕ
   bytes = maskBytes (w .level)
 
-  pub no-value-mask : length s < w .value + bytes → false ≡ isInside s w
+  pub no-value-mask : length s < w .«value_mask» + bytes → false ≡ isInside s w
   unfolding isInside
   no-value-mask h = rw (lt-leb _ _ h)
 
-  pub no-child-mask : w .value + bytes ≤ length s → length s < w .child + bytes → false ≡ isInside s w
+  pub no-child-mask : w .«value_mask» + bytes ≤ length s → length s < w .«child_mask» + bytes → false ≡ isInside s w
   unfolding isInside
   no-child-mask a h = rw (le-leb _ _ a, lt-leb _ _ h)
 
-  pub no-number : w .value + bytes ≤ length s → w .child + bytes ≤ length s → w .from < w .number → false ≡ isInside s w
+  pub no-number : w .«value_mask» + bytes ≤ length s → w .«child_mask» + bytes ≤ length s → w .from < w .number → false ≡ isInside s w
   unfolding isInside
   no-number a b h = rw (le-leb _ _ a, le-leb _ _ b, lt-leb _ _ h)
 
   pub by-origin :
-      {t : Bool} → w .value + bytes ≤ length s → w .child + bytes ≤ length s → w .number ≤ w .from → t ≡ aligned (edgeOf (w .level) * sideOf (w .level)) (w .origin) → t ≡ isInside s w
+      {t : Bool} → w .«value_mask» + bytes ≤ length s → w .«child_mask» + bytes ≤ length s → w .number ≤ w .from → t ≡ aligned (edgeOf (w .level) * sideOf (w .level)) (w .origin) → t ≡ isInside s w
   unfolding isInside
   by-origin a b h e = rw (le-leb _ _ a, le-leb _ _ b, le-leb _ _ h) e
 
   pub record IsInside : Type 0 where
-    pub value : w .value + bytes ≤ length s
-    pub child : w .child + bytes ≤ length s
+    pub value : w .«value_mask» + bytes ≤ length s
+    pub child : w .«child_mask» + bytes ≤ length s
     pub number : w .number ≤ w .from
     pub multiple : aligned (edgeOf (w .level) * sideOf (w .level)) (w .origin) ≡ true
 

@@ -1,44 +1,36 @@
 -- A run: places that are active, one after the other, handed out at once.
-use mathlib.Core.Path.{_≡_, refl, sym, ap, ap₂, subst, _∙_}
+use mathlib.Core.Path.{_≡_, refl, sym, ap, ap₂, _∙_}
 use mathlib.Core.List.{List, [], _∷_, _++_, append-assoc, append-nil}
-use mathlib.Core.Bool.{Bool, true, false, true≢false}
-use Prim.Native.Nat.{ℕ, zero, suc, _+_, _-_, _*_, _/_, _%_, _^_, _≤_, _<_}
+use mathlib.Core.Bool.{true, true≢false}
+use Prim.Native.Nat.{ℕ, zero, suc, _+_, _-_, _/_, _%_, _^_, _≤_, _<_}
 use native.Mathlib.Nat.{add-zero, add-suc, zero-add, lt-of-not-le, pow-suc, le-refl}
 use native.Mathlib.Omega.{arith}
-use lib.Count.{trailingZeros, trailing-le, trailing-of-zero}
 use native.Mathlib.Numerals.{one-add}
 use lib.Pow.{pow-pos}
-use lib.Dec.{lit<}
-use borrow.Author.Tests.{eqb-false, eq-eqb}
+use borrow.Author.Tests.{eq-eqb}
 use Rattle.masks.specs.Masks.{digit, maskBit}
-use Rattle.masks.specs.Inner.{IsWord}
-use Rattle.masks.proofs.Digits.{digit-shift, digit-past, trailing-zero}
+use Rattle.masks.proofs.Digits.{digit-shift, digit-past}
 use Rattle.values.specs.declared.Coding.{Coding}
 use Rattle.tree.specs.Active.{Record}
 use Rattle.slots.specs.Slots.{Slots, laidFrom}
 use Rattle.slots.specs.Inner.{roomOf, standing, runOf}
-use Rattle.bits.specs.Inner.{recordHere, Handed, handOut, Fills, AreBits, InWord, handWord, pastActive}
+use Rattle.bits.specs.Inner.{recordHere, Handed, handOut, Fills, InWord, handWord, pastActive}
 use Rattle.records.specs.Inner.{follow, handedRun}
-use Rattle.bits.specs.declared.Bits.{Bits}
 use Rattle.slots.specs.declared.Inside.{Inside}
-use Rattle.bits.proofs.Laws.{handed-one, bits-past}
+use Rattle.bits.specs.declared.Bits.{Bits}
 use Rattle.slots.proofs.Runs.{length-run}
+use Rattle.bits.proofs.Laws.{handed-one}
 
--- Where x and b make up k ones, b has a one where x has none.
-complement : (q k x b : ℕ) → q < k → x + b ≡ 2 ^ k - 1 → digit x q ≡ false → digit b q ≡ true
+-- Each of the k lowest bits of 2 ^ k - 1 is set.
+pub all-ones : (k b q : ℕ) → b ≡ 2 ^ k - 1 → q < k → digit b q ≡ true
 unfolding digit
-complement q zero x b h e d = absurd (omega arith)
-complement zero (suc k) x b h e d = eq-eqb (b / 2 ^ 0 % 2) 1 (omega (arith, eqb-false (x / 2 ^ 0 % 2) 1 d, pow-suc 2 k, pow-pos k))
-complement (suc q) (suc k) x b h e d =
-    let later = complement q k (x / 2) (b / 2) (omega arith) (omega (arith, pow-suc 2 k, pow-pos k)) in
-    rw (← one-add q, ← digit-shift b 1 q) (later (digit-shift x 1 q ∙ rw (one-add q) d))
-
-pub all-ones : (b q : ℕ) → b ≡ 18446744073709551615 → q < 64 → digit b q ≡ true
-all-ones b q e h = rw e (complement q 64 0 18446744073709551615 h refl (digit-past 0 0 q (omega arith) (omega arith)))
+all-ones zero b q e h = absurd (omega arith)
+all-ones (suc k) b zero e h = eq-eqb (b / 2 ^ 0 % 2) 1 (omega (arith, pow-suc 2 k, pow-pos k))
+all-ones (suc k) b (suc q) e h = rw (← one-add q, ← digit-shift b 1 q) (all-ones k (b / 2) q (omega (arith, pow-suc 2 k, pow-pos k)) (omega arith))
 
 -- The next n places are active, with values in the file: their records, and then what is handed out from behind them.
 pub hand-run :
-    (s : List ℕ) (c : Coding) (w : Inside) (n want j : ℕ) → ((q : ℕ) → q < n → maskBit s (w .value) (w .from + q) ≡ true) → w .number + n ≤ roomOf s c (w .start) →
+    (s : List ℕ) (c : Coding) (w : Inside) (n want j : ℕ) → ((q : ℕ) → q < n → maskBit s (w .«value_mask») (w .from + q) ≡ true) → w .number + n ≤ roomOf s c (w .start) →
     handOut s c (n + want) w (n + j) ≡ follow (handedRun s c w n) (handOut s c want (standing w (w .from + n) (w .number + n)) j)
 unfolding runOf recordHere
 hand-run s c w zero want j active l = rw (zero-add, zero-add, add-zero, add-zero)

@@ -4,9 +4,9 @@ use mathlib.Core.Bool.{true, false}
 use Prim.Native.Nat.{ℕ, _+_, _≤_, _<_}
 use borrow.Author.Tests.{lt-leb, le-leb, leb-true, eqb-true, eq-eqb, ne-eqb}
 use Rattle.coordinates.proofs.Axis.{and-both}
-use Rattle.bits.specs.declared.Bits.{Bits}
-use Rattle.records.specs.Inner.{isFull, isLeaf}
 use Rattle.bits.specs.Inner.{LeafWord}
+use Rattle.records.specs.Inner.{isFull, isLeaf}
+use Rattle.bits.specs.declared.Bits.{Bits}
 
 -- Whether a word is full: what it then has, and by which test it is not.
 module _ (b : Bits) (room slot limit : ℕ) where

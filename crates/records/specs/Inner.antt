@@ -14,8 +14,8 @@ use Rattle.tree.specs.Active.{sideOf, edgeOf}
 use Rattle.masks.specs.Inner.{IsMask}
 use Rattle.slots.specs.Inner.{maskBytes, standing, runOf}
 use Rattle.bits.specs.Inner.{Handed, nothing, cutOff, handOut}
-use Rattle.bits.specs.declared.Bits.{Bits}
 use Rattle.slots.specs.declared.Inside.{Inside}
+use Rattle.bits.specs.declared.Bits.{Bits}
 
 -- one part, then another
 abbrev pub follow : Handed → Handed → Handed
@@ -29,7 +29,7 @@ handedRun s c w n = record { records = runOf s c w n; inside = standing w (w .fr
 -- places are passed than places.
 unfoldable pub isInside : List ℕ → Inside → Bool
 isInside s w =
-    leb (w .value + maskBytes (w .level)) (length s) && (leb (w .child + maskBytes (w .level)) (length s)
+    leb (w .«value_mask» + maskBytes (w .level)) (length s) && (leb (w .«child_mask» + maskBytes (w .level)) (length s)
     && (leb (w .number) (w .from) && aligned (edgeOf (w .level) * sideOf (w .level)) (w .origin)))
 
 -- of the places that are left of the piece
@@ -40,8 +40,8 @@ handPiece s c want w =
 
 -- both masks of n bytes lie in the file, and have a bit for each place of the piece
 pub record Masks (s : List ℕ) (n : ℕ) (w : Inside) : Type 0 where
-  pub value : IsMask s (w .value) n
-  pub child : IsMask s (w .child) n
+  pub value : IsMask s (w .«value_mask») n
+  pub child : IsMask s (w .«child_mask») n
   pub places : 8 * n ≡ places (edgeOf (w .level))
 
 -- whether a word has 64 active places, and there are slots and values for them

@@ -55,7 +55,8 @@ fn is_full(b: Bits, room: usize, slot: usize, limit: usize) -> bool
     true
 }
 
-// The same for any word. Full ones stand apart, of which a dense cloud has many, and so do leaves, which have most of the places.
+// The records of a word's places into the slots from `slot` on, no further than `limit`. Full words stand apart, of which a dense cloud has many, and
+// so do leaves, which have most of the places.
 fn fill_word(
     table: &[u32],
     s: &[u8],
@@ -102,8 +103,8 @@ fn word_at(s: &[u8], n: usize, w: Inside) -> Bits
     Bits {
         inside: w,
         left: 64 - w.from % 64,
-        ones: masks::high_bits(masks::word(s, w.value, n, i), r),
-        children: masks::high_bits(masks::word(s, w.child, n, i), r),
+        ones: masks::high_bits(masks::word(s, w.value_mask, n, i), r),
+        children: masks::high_bits(masks::word(s, w.child_mask, n, i), r),
     }
 }
 
@@ -182,10 +183,10 @@ pub fn is_inside(s: &[u8], n: usize, w: Inside) -> bool
     if s.len() < n {
         return false;
     }
-    if s.len() - n < w.value {
+    if s.len() - n < w.value_mask {
         return false;
     }
-    if s.len() - n < w.child {
+    if s.len() - n < w.child_mask {
         return false;
     }
     if (w.from as usize) < w.number {

@@ -23,17 +23,16 @@ pub record Same (t t₀ : Slots) : Type 0 where
 pub same : (t : Slots) → Same t t
 same t = record { in-x = refl; in-y = refl; in-z = refl; in-level = refl; in-value = refl }
 
--- A record in slot i: as many slots as before.
-module _ (t t′ : Slots) (i : ℕ) (r : Record) (e : t′ ≡ put t i r) where
-  pub put-same : {t₀ : Slots} → Same t t₀ → Same t′ t₀
-  put-same h =
-      rw e record {
-        in-x = simp length-set (h .in-x);
-        in-y = simp length-set (h .in-y);
-        in-z = simp length-set (h .in-z);
-        in-level = simp length-set (h .in-level);
-        in-value = simp length-set (h .in-value);
-      }
+-- a record in slot i: as many slots as before
+pub put-same : (t t′ : Slots) (i : ℕ) (r : Record) → t′ ≡ put t i r → {t₀ : Slots} → Same t t₀ → Same t′ t₀
+put-same t t′ i r e h =
+    rw e record {
+      in-x = simp length-set (h .in-x);
+      in-y = simp length-set (h .in-y);
+      in-z = simp length-set (h .in-z);
+      in-level = simp length-set (h .in-level);
+      in-value = simp length-set (h .in-value);
+    }
 
 pub room-less : {n m : ℕ} (t : Slots) → m ≤ n → Room n t → Room m t
 room-less t l h =

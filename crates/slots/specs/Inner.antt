@@ -39,8 +39,8 @@ abbrev pub standing : Inside → ℕ → ℕ → Inside
 standing w p k = record {
   level = w .level;
   origin = w .origin;
-  child = w .child;
-  value = w .value;
+  «child_mask» = w .«child_mask»;
+  «value_mask» = w .«value_mask»;
   stored = w .stored;
   start = w .start;
   from = p;

@@ -16,8 +16,8 @@ use values::Coding;
 pub struct Inside {
     pub level: u32,
     pub origin: GlobalCoord,
-    pub child: usize,
-    pub value: usize,
+    pub child_mask: usize,
+    pub value_mask: usize,
     pub stored: u32,
     pub start: usize,
     pub from: u32,

@@ -37,7 +37,7 @@ pub record Needed : Type 0 where
 unfoldable pub neededNext : Place → Needed
 neededNext p =
     when (ltb (p .inside .from) (places (edgeOf (p .inside .level))))
-    (record { start = p .inside .value; bytes = places (edgeOf (p .inside .level)) / 8 })
+    (record { start = p .inside .«value_mask»; bytes = places (edgeOf (p .inside .level)) / 8 })
     (when (eqb (p .cursor .depth) 0) (record { start = p .cursor .«topology_pos»; bytes = 12 })
     (when (eqb (p .cursor .depth) 1) (record { start = p .cursor .node5 .pos; bytes = 4096 })
     (record { start = p .cursor .node4 .pos; bytes = 512 })))

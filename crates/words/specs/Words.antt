@@ -57,8 +57,8 @@ unfoldable pub insideOf : List ℕ → ℕ → Inside
 insideOf w k = record {
   level = low32 (at w k);
   origin = coordsOf (at w (k + 1)) (at w (k + 2)) (at w (k + 3));
-  child = at w (k + 4);
-  value = at w (k + 5);
+  «child_mask» = at w (k + 4);
+  «value_mask» = at w (k + 5);
   stored = low32 (at w (k + 6));
   start = at w (k + 7);
   from = low32 (at w (k + 8));
@@ -84,7 +84,7 @@ abbrev pub cursorWords : Cursor → List ℕ
 cursorWords c = c .depth ∷ c .«roots_left» ∷ enteredWords (c .node5) ++ enteredWords (c .node4) ++ c .«topology_pos» ∷ c .«block_pos» ∷ []
 
 abbrev pub insideWords : Inside → List ℕ
-insideWords w = w .level ∷ coordWords (w .origin) ++ w .child ∷ w .value ∷ w .stored ∷ w .start ∷ w .from ∷ w .number ∷ []
+insideWords w = w .level ∷ coordWords (w .origin) ++ w .«child_mask» ∷ w .«value_mask» ∷ w .stored ∷ w .start ∷ w .from ∷ w .number ∷ []
 
 unfoldable pub wordsOf : Place → List ℕ
 wordsOf p = startWords (p .start) ++ p .left ∷ cursorWords (p .cursor) ++ insideWords (p .inside)

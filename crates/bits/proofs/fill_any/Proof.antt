@@ -1,4 +1,4 @@
--- The invariant: what is left to hand out from here is the whole.
+-- The invariant: what the word behind the places passed hands out, after what was handed out, is what the whole word does.
 use borrow.Author.Needs.{needs}
 use mathlib.Core.Path.{_≡_, refl, ap, _∙_}
 use mathlib.Core.Logic.{⊎-elim}
@@ -9,9 +9,9 @@ use Rattle.slots.specs.Slots.{slotsOf}
 use Rattle.slots.specs.Inner.{Room, Readable}
 use Rattle.bits.specs.Inner.{handWord, InWord}
 use Rattle.bits.specs.declared.Bits.{Bits}
-use Rattle.bits.proofs.Laws.{Going, starts, goes, ends, hand-full, hand-none, turn-one, turn-cut, word-past, sums-fit, Active, active-there, readable-past, record-is, run-is}
 use Rattle.slots.proofs.Laws.{Same, same, in-room, put-same, put-room, room-less}
 use Rattle.slots.proofs.Levels.{masked}
+use Rattle.bits.proofs.Laws.{Going, starts, goes, ends, hand-full, hand-none, turn-one, turn-cut, word-past, sums-fit, Active, active-there, readable-past, record-is, run-is}
 use Rattle.bits.proofs.fill_any.Statement.{statement}
 use Rattle.bits.proofs.fill_any.Tie as tie
 

@@ -1,4 +1,4 @@
--- The invariant: what is left to hand out from here is the whole.
+-- The invariant: behind p places, as many of them active as records were handed out, what is left to hand out makes up the whole.
 use borrow.Author.Needs.{needs}
 use mathlib.Core.Path.{_≡_, refl, sym, ap, _∙_}
 use Prim.Native.Nat.{ℕ, _+_, _-_, _*_, _/_, _^_, _<_, _≤_}
@@ -10,8 +10,8 @@ use Rattle.slots.specs.Slots.{slotsOf}
 use Rattle.slots.specs.Inner.{Room}
 use Rattle.bits.specs.Inner.{handWord, onesPast, numberIn, past}
 use Rattle.bits.specs.declared.Bits.{Bits}
-use Rattle.bits.proofs.Laws.{ones-small, Going, goes, ends, hand-full, run-is}
 use Rattle.slots.proofs.Laws.{Same, same, in-room, put-same, put-room, room-less}
+use Rattle.bits.proofs.Laws.{ones-small, Going, goes, ends, hand-full, run-is}
 use Rattle.bits.proofs.Ones.{lowest-past, past-on, begins, number-le, leaf-multiple, leaf-places, done, one-inside, one-more}
 use Rattle.bits.proofs.fill_ones.Statement.{statement}
 use Rattle.bits.proofs.fill_ones.Tie as tie

@@ -6,8 +6,8 @@ use Prim.Native.Nat.{ℕ, _+_, _≤_, _<_}
 use native.Mathlib.Omega.{arith}
 use Rattle.masks.specs.Masks.{digit}
 use Rattle.slots.proofs.Levels.{masked}
-use Rattle.bits.proofs.Laws.{starts, ends-so}
 use Rattle.slots.proofs.Laws.{room-less}
+use Rattle.bits.proofs.Laws.{starts, ends-so}
 use Rattle.records.proofs.Ways.{full-there, leaf-there}
 use Rattle.records.proofs.Runs.{all-ones, run-inside, word-whole, run-fills}
 use Rattle.records.proofs.fill_word.Statement.{statement}
@@ -22,7 +22,7 @@ module _ (c : tie.Then1) where
   full = full-there _ _ _ _ (sym (c .before .is-full .ensures) ∙ c .if1 .taken)
 
   active : (q : ℕ) → q < 64 → digit (start .args .word .ones) q ≡ true
-  active q h = all-ones _ q (full .0) h
+  active q h = all-ones 64 _ q (full .0) h
 
   inside : 64 ≤ start .args .word .left
   inside = run-inside _ (start .args .c) _ (start .pre .1) 64 active

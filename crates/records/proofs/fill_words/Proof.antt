@@ -9,8 +9,8 @@ use Rattle.slots.specs.Slots.{slotsOf}
 use Rattle.slots.specs.Inner.{Room, Readable}
 use Rattle.bits.specs.Inner.{handOut}
 use Rattle.records.specs.Inner.{Masks}
-use Rattle.bits.proofs.Laws.{Going, starts, ends, ends-so, fills-same, hand-full, run-is}
 use Rattle.slots.proofs.Laws.{Same, same, room-same}
+use Rattle.bits.proofs.Laws.{Going, starts, ends, ends-so, fills-same, hand-full, run-is}
 use Rattle.records.proofs.Laws.{part-on, hand-readable, hand-masks, hand-done, word-on, word-cut, word-passed}
 use Rattle.records.proofs.fill_words.Statement.{statement}
 use Rattle.records.proofs.fill_words.Tie as tie

@@ -32,7 +32,7 @@ returns : tie.Need-returns
 returns c =
     let v = c .before .before in
     let l = v .before .before .before .before in (
-      λ q. slotsOf (x (y (z l)) .fill-axis .ensures q) (y (z l) .fill-axis2 .ensures q) (z l .fill-axis3 .ensures q) (l .fill-level .ensures q) (v .fill-values .ensures q)
+    λ q. slotsOf (x (y (z l)) .fill-axis .ensures q) (y (z l) .fill-axis2 .ensures q) (z l .fill-axis3 .ensures q) (l .fill-level .ensures q) (v .fill-values .ensures q)
     ) ∙ sym (laid-ranged _ _ _ _ _ 64)
 
 pub fill-full-spec : {M : Type 1} → statement M
