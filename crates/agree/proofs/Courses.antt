@@ -19,8 +19,10 @@ use Rattle.values.proofs.Agree.{stored-value-same}
 use Rattle.tree.specs.Active.{Piece, edgeOf, sideOf}
 use Rattle.tree.specs.Inner.{recordCount}
 use Rattle.tree.proofs.Agree.{SamePiece, maskBytes, mask-places, records-same}
-use Rattle.records.specs.Inner.{Handed, roomOf, isKept, recordHere, andThen, handOut, isInside, handPiece, nothing, cutOff}
-use Rattle.records.proofs.Levels.{masked}
+use Rattle.slots.specs.Inner.{roomOf}
+use Rattle.bits.specs.Inner.{Handed, isKept, recordHere, andThen, handOut, nothing, cutOff}
+use Rattle.records.specs.Inner.{isInside, handPiece}
+use Rattle.slots.proofs.Levels.{masked}
 use Rattle.cursor.specs.Inner.{HeldPiece, Stop, toCome}
 use Rattle.cursor.specs.declared.Cursor.{Cursor}
 use Rattle.place.specs.Inner.{Course, storedNumber, entered, atPlace, course, join, stopped, listing}

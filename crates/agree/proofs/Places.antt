@@ -22,7 +22,8 @@ use Rattle.cursor.specs.Inner.{Rest, Stop, betweenRoots, toCome}
 use Rattle.cursor.specs.declared.Cursor.{Cursor}
 use Rattle.cursor.proofs.Laws.{to-come0}
 use Rattle.cursor.proofs.Whole.{whole}
-use Rattle.records.specs.Inner.{handPiece, nothing}
+use Rattle.bits.specs.Inner.{nothing}
+use Rattle.records.specs.Inner.{handPiece}
 use Rattle.place.specs.Inner.{course, listing, handOn, nowhere, freshPlace, moved, placeFrom}
 use Rattle.place.specs.declared.Start.{Start}
 use Rattle.grid.specs.Grid.{Grid, codingOf, rootLimit, contentField, gridField, grid, placeAfter}

@@ -12,8 +12,8 @@ use Rattle.masks.proofs.Laws.{next-lt, next-from, next-one, next-count, next-no
 use Rattle.values.specs.Values.{isStored, numberOf}
 use Rattle.values.specs.declared.Stored.{Stored}
 use Rattle.values.specs.declared.Stored.the-variants.{Childless}
-use Rattle.records.specs.Inner.{maskBytes, standing}
-use Rattle.records.specs.declared.Inside.{Inside}
+use Rattle.slots.specs.Inner.{maskBytes, standing}
+use Rattle.slots.specs.declared.Inside.{Inside}
 use Rattle.nth.specs.Inner.{storedOf, IsOne, HasOne, BehindOne}
 
 -- Of n places, p is reached, and so many ones are left to pass before that with the number k.
@@ -47,14 +47,14 @@ stored-else (suc (suc n)) l = refl
 
 -- the record's bit is one of the mask's, and where its place is found the walk stands behind it
 module _ (s : List ℕ) (w : Inside) (k : ℕ) (h : HasOne s w k) {n : ℕ} (e : n ≡ maskBytes (w .level)) where
-  pub has-bit : IsMask s (w .value) n × (k < countBelow (maskBit s (w .value)) (8 * n))
+  pub has-bit : IsMask s (w .«value_mask») n × (k < countBelow (maskBit s (w .«value_mask»)) (8 * n))
   has-bit = (rw e (h .value), rw e (h .more))
 
   pub stands-so :
-      {p number : ℕ} {st : Stored} {r : Inside} → IsOne (maskBit s (w .value)) (8 * n) k p → st ≡ storedOf (w .stored) → number ≡ numberOf s st (w .child) (w .value) p →
+      {p number : ℕ} {st : Stored} {r : Inside} → IsOne (maskBit s (w .«value_mask»)) (8 * n) k p → st ≡ storedOf (w .stored) → number ≡ numberOf s st (w .«child_mask») (w .«value_mask») p →
       r ≡ standing w (p + 1) (number + 1) → BehindOne s w k r
   stands-so {p} one f d g = record {
     place = p;
     one = rw e at one;
-    stands = g ∙ ap (λ (m : ℕ). standing w (p + 1) (m + 1)) (d ∙ ap (λ (st : Stored). numberOf s st (w .child) (w .value) p) f);
+    stands = g ∙ ap (λ (m : ℕ). standing w (p + 1) (m + 1)) (d ∙ ap (λ (st : Stored). numberOf s st (w .«child_mask») (w .«value_mask») p) f);
   }

@@ -8,8 +8,8 @@ use Rattle.masks.specs.Inner.{IsMask}
 use Rattle.values.specs.Values.{numberOf}
 use Rattle.values.specs.declared.Stored.{Stored}
 use Rattle.values.specs.declared.Stored.the-variants.{Every, Active, Childless}
-use Rattle.records.specs.Inner.{maskBytes, standing}
-use Rattle.records.specs.declared.Inside.{Inside}
+use Rattle.slots.specs.Inner.{maskBytes, standing}
+use Rattle.slots.specs.declared.Inside.{Inside}
 
 -- which places of a piece are stored, by the number that a walk keeps
 abbrev pub storedOf : ℕ → Stored
@@ -25,12 +25,12 @@ pub record IsOne (f : ℕ → Bool) (n k p : ℕ) : Type 0 where
 
 -- Both masks of the piece that a walk stands in lie in the file, and it lists a record with the number k, from 0.
 pub record HasOne (s : List ℕ) (w : Inside) (k : ℕ) : Type 0 where
-  pub child : IsMask s (w .child) (maskBytes (w .level))
-  pub value : IsMask s (w .value) (maskBytes (w .level))
-  pub more : k < countBelow (maskBit s (w .value)) (8 * maskBytes (w .level))
+  pub child : IsMask s (w .«child_mask») (maskBytes (w .level))
+  pub value : IsMask s (w .«value_mask») (maskBytes (w .level))
+  pub more : k < countBelow (maskBit s (w .«value_mask»)) (8 * maskBytes (w .level))
 
 -- the walk right behind the place of that record
 pub record BehindOne (s : List ℕ) (w : Inside) (k : ℕ) (r : Inside) : Type 0 where
   pub place : ℕ
-  pub one : IsOne (maskBit s (w .value)) (8 * maskBytes (w .level)) k place
-  pub stands : r ≡ standing w (place + 1) (numberOf s (storedOf (w .stored)) (w .child) (w .value) place + 1)
+  pub one : IsOne (maskBit s (w .«value_mask»)) (8 * maskBytes (w .level)) k place
+  pub stands : r ≡ standing w (place + 1) (numberOf s (storedOf (w .stored)) (w .«child_mask») (w .«value_mask») place + 1)

@@ -7,7 +7,7 @@ ghost use Rattle.masks.specs.Inner.{IsMask};
 ghost use Rattle.nth.specs.Inner.{storedOf, IsOne, HasOne, BehindOne};
 use coordinates::Index;
 use masks::NextOne;
-use records::Inside;
+use slots::Inside;
 use values::Stored;
 
 // The place of the one with the number k, from 0, among those from a place on.
@@ -64,10 +64,10 @@ pub fn stand_behind(s: &[u8], w: Inside, k: u32) -> Inside
     requires { ⌜ HasOne (now s) w k ⌝ }
     ensures { λ r. ⌜ BehindOne (now (s .entry)) w k r ⌝ }
 {
-    let n = records::mask_bytes(w.level);
-    let p = nth_one(s, w.value, n, k);
+    let n = slots::mask_bytes(w.level);
+    let p = nth_one(s, w.value_mask, n, k);
     let stored = stored_of(w.stored);
-    let number = values::number_of(s, stored, n, w.child, w.value, p);
+    let number = values::number_of(s, stored, n, w.child_mask, w.value_mask, p);
     let mut r = w;
     r.from = p.0 + 1;
     r.number = number + 1;

@@ -15,7 +15,8 @@ use Rattle.values.specs.declared.Coding.{Coding}
 use Rattle.tree.specs.Active.{recordsOf}
 use Rattle.tree.specs.Inner.{recordCount, leafCount}
 use Rattle.tree.proofs.Counting.{total}
-use Rattle.records.specs.Inner.{Handed, handPiece}
+use Rattle.bits.specs.Inner.{Handed}
+use Rattle.records.specs.Inner.{handPiece}
 use Rattle.cursor.specs.Inner.{Stop, toCome, HeldPiece}
 use Rattle.cursor.specs.declared.Cursor.{Cursor}
 use Rattle.skip.specs.Inner.{before, skipping, skipFrom}

@@ -10,8 +10,9 @@ use borrow.Author.Tests.{lt-ltb, le-ltb, ltb-true, ltb-false}
 use Rattle.fields.specs.Parse.{when}
 use Rattle.half.specs.Inner.{isWidth}
 use Rattle.values.specs.declared.Coding.{Coding}
-use Rattle.records.specs.Inner.{Handed, follow, handPiece}
-use Rattle.records.specs.declared.Inside.{Inside}
+use Rattle.bits.specs.Inner.{Handed}
+use Rattle.records.specs.Inner.{follow, handPiece}
+use Rattle.slots.specs.declared.Inside.{Inside}
 use Rattle.records.proofs.Cut.{Cut, full, short, piece-cut}
 use Rattle.cursor.specs.Inner.{Stop}
 use Rattle.cursor.specs.declared.Cursor.{Cursor}

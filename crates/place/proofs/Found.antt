@@ -19,10 +19,13 @@ use Rattle.values.specs.declared.Coding.{Coding}
 use Rattle.tree.specs.Active.{Piece, edgeOf}
 use Rattle.tree.specs.Inner.{recordCount, leafCount}
 use Rattle.tree.proofs.Counting.{total, total-append}
-use Rattle.records.specs.Inner.{maskBytes, nothing, cutOff, isInside, handPiece}
-use Rattle.records.specs.declared.Inside.{Inside}
-use Rattle.records.proofs.Laws.{hand-full, inside-back}
-use Rattle.records.proofs.Levels.{masked}
+use Rattle.slots.specs.Inner.{maskBytes}
+use Rattle.bits.specs.Inner.{nothing, cutOff}
+use Rattle.records.specs.Inner.{isInside, handPiece}
+use Rattle.slots.specs.declared.Inside.{Inside}
+use Rattle.bits.proofs.Laws.{hand-full}
+use Rattle.records.proofs.Pieces.{inside-back}
+use Rattle.slots.proofs.Levels.{masked}
 use Rattle.cursor.specs.Inner.{Stop, toCome, HeldPiece}
 use Rattle.cursor.specs.declared.Cursor.{Cursor}
 use Rattle.skip.specs.Inner.{before, skipFrom}
@@ -39,7 +42,7 @@ use Rattle.place.proofs.Counted.{leads-on}
 
 -- a number of a record, among all of a piece, is small
 pub small-number : (s : List ℕ) (w : Inside) (k : ℕ) → HasOne s w k → k < 32768
-small-number s w k h = omega (arith, h .more, count-le (maskBit s (w .value)) (8 * maskBytes (w .level)), masked (w .level) .small)
+small-number s w k h = omega (arith, h .more, count-le (maskBit s (w .«value_mask»)) (8 * maskBytes (w .level)), masked (w .level) .small)
 
 -- Pieces are passed up to one that does not fit: leaves enough may be passed, so it lists more records than are left to pass.
 module _ (s : List ℕ) (c : Coding) (wide : isWidth (c .width)) (x : Cursor) (small : x .«roots_left» < 4294967296) (m : ℕ) {q : Piece} {y : Cursor} {n k : ℕ}
@@ -73,22 +76,22 @@ module _ (s : List ℕ) (c : Coding) (wide : isWidth (c .width)) (x : Cursor) (s
 
 -- The records of the piece that a walk stands in: how many it has passed, and how many are left of it.
 abbrev pub passedIn : List ℕ → Inside → ℕ
-passedIn s w = countBelow (maskBit s (w .value)) (w .from)
+passedIn s w = countBelow (maskBit s (w .«value_mask»)) (w .from)
 
 abbrev pub leftIn : List ℕ → Inside → ℕ
-leftIn s w = countBelow (maskBit s (w .value)) (8 * maskBytes (w .level)) - passedIn s w
+leftIn s w = countBelow (maskBit s (w .«value_mask»)) (8 * maskBytes (w .level)) - passedIn s w
 
 -- Words that can be those of a walk in a piece: its masks lie in the file, and its records can be counted.
 module _ (s : List ℕ) (w : Inside) {n : ℕ} (e : n ≡ maskBytes (w .level)) where
-  pub masks-there : true ≡ isInside s w → IsMask s (w .value) n × IsMask s (w .child) n
+  pub masks-there : true ≡ isInside s w → IsMask s (w .«value_mask») n × IsMask s (w .«child_mask») n
   masks-there f =
       let i = inside-back s w (sym f) in
       let m = masked (w .level) in
       rw e (record { within = i .value; words = m .words; small = m .small }, record { within = i .child; words = m .words; small = m .small })
 
-  module _ {passed count : ℕ} (d : passed ≡ passedIn s w) (g : count ≡ countBelow (maskBit s (w .value)) (8 * n)) where
+  module _ {passed count : ℕ} (d : passed ≡ passedIn s w) (g : count ≡ countBelow (maskBit s (w .«value_mask»)) (8 * n)) where
     pub passed-fewer : w .from < 8 * n → passed ≤ count
-    passed-fewer l = rw (d, g) (count-mono (maskBit s (w .value)) (w .from) (8 * n) (omega arith))
+    passed-fewer l = rw (d, g) (count-mono (maskBit s (w .«value_mask»)) (w .from) (8 * n) (omega arith))
 
     pub left-there : count - passed ≡ leftIn s w
     left-there = rw (d, g, e)
@@ -96,7 +99,7 @@ module _ (s : List ℕ) (w : Inside) {n : ℕ} (e : n ≡ maskBytes (w .level)) 
     pub has-here : (k : ℕ) → true ≡ isInside s w → 0 < k → k ≤ count - passed → HasOne s w (passed + (k - 1))
     has-here k f i l =
         let m = masks-there f in
-        record { child = rw e at (m .1); value = rw e at (m .0); more = rw e at (let h : passed + (k - 1) < countBelow (maskBit s (w .value)) (8 * n) = omega (arith, g, l, i) in h) }
+        record { child = rw e at (m .1); value = rw e at (m .0); more = rw e at (let h : passed + (k - 1) < countBelow (maskBit s (w .«value_mask»)) (8 * n) = omega (arith, g, l, i) in h) }
 
 record InPiece (s : List ℕ) (c : Coding) (k : ℕ) (w : Inside) : Type 0 where
   inside : true ≡ isInside s w

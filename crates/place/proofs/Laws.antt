@@ -13,11 +13,12 @@ use Rattle.fields.specs.Parse.{when}
 use Rattle.values.specs.declared.Coding.{Coding}
 use Rattle.cursor.specs.Inner.{Stop}
 use Rattle.cursor.specs.declared.Cursor.{Cursor}
-use Rattle.records.specs.Slots.{Slots, laid}
-use Rattle.records.specs.Inner.{Handed, handPiece, Fills}
-use Rattle.records.specs.declared.Inside.{Inside}
-use Rattle.records.specs.declared.Run.{Run}
-use Rattle.records.proofs.Laws.{laid-append, laid-same, Same, same}
+use Rattle.slots.specs.Slots.{Slots, laidFrom}
+use Rattle.bits.specs.Inner.{Handed, Fills}
+use Rattle.records.specs.Inner.{handPiece}
+use Rattle.slots.specs.declared.Inside.{Inside}
+use Rattle.bits.specs.declared.Run.{Run}
+use Rattle.slots.proofs.Laws.{laid-append, laid-same, Same, same}
 use Rattle.half.specs.Inner.{isWidth}
 use Rattle.place.specs.Inner.{Course, stopped, join, listingFrom, course, handOn, entered, nextStand, Walks}
 use Rattle.place.specs.declared.Stand.{Stand}
@@ -28,7 +29,7 @@ pub record Coming (i : ℕ) (a : Course) (t : Slots) (A : Course) (t₀ : Slots)
   pub cursor : a .cursor ≡ A .cursor
   pub inside : a .inside ≡ A .inside
   pub filled : i + length (a .records) ≡ length (A .records)
-  pub slots : laid t i (a .records) ≡ laid t₀ 0 (A .records)
+  pub slots : laidFrom t i (a .records) ≡ laidFrom t₀ 0 (A .records)
 
 pub comes : (s : List ℕ) (c : Coding) (limit : ℕ) (x : Cursor) (w : Inside) (t₀ : Slots) → Coming 0 (handOn s c (limit - 0) x w) t₀ (handOn s c limit x w) t₀
 comes s c limit x w t₀ = rw (sub-zero limit) record { cursor = refl; inside = refl; filled = omega arith; slots = refl }

@@ -15,7 +15,8 @@ use Rattle.tree.specs.Topology.{Node5}
 use Rattle.tree.specs.Blocks.{Filled5}
 use Rattle.tree.specs.Active.{Record, joined, recordsOf, activeList}
 use Rattle.tree.proofs.Coverage.{Parsed}
-use Rattle.records.specs.Inner.{Handed, handPiece}
+use Rattle.bits.specs.Inner.{Handed}
+use Rattle.records.specs.Inner.{handPiece}
 use Rattle.cursor.specs.Inner.{Stop}
 use Rattle.cursor.specs.declared.Cursor.{Cursor}
 use Rattle.cursor.proofs.Whole.{fresh, whole-list}

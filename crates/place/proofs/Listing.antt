@@ -21,8 +21,8 @@ use Rattle.tree.proofs.Counting.{total}
 use Rattle.cursor.specs.Inner.{Rest, Stop, stop, toCome, HeldPiece}
 use Rattle.cursor.specs.declared.Cursor.{Cursor}
 use Rattle.cursor.proofs.Step.{follows}
-use Rattle.records.specs.Inner.{maskBytes}
-use Rattle.records.proofs.Levels.{masked}
+use Rattle.slots.specs.Inner.{maskBytes}
+use Rattle.slots.proofs.Levels.{masked}
 use Rattle.skip.specs.Inner.{Skip, before, ended, refused, skipping, skipFrom}
 use Rattle.skip.proofs.Laws.{leavesIn}
 use Rattle.skip.proofs.Few.{cursor-leaves}

@@ -19,10 +19,12 @@ use Rattle.values.specs.declared.Stored.{Stored}
 use Rattle.values.specs.declared.Stored.the-variants.{Every, Active, Childless}
 use Rattle.values.proofs.Laws.{held-place, stored-place}
 use Rattle.tree.specs.Active.{Record, Piece, edgeOf, recordAt, recordsOf}
-use Rattle.records.specs.Inner.{Handed, roomOf, isKept, recordHere, nothing, cutOff, handOut, isInside, handPiece}
-use Rattle.records.specs.declared.Inside.{Inside}
-use Rattle.records.proofs.Laws.{by-origin}
-use Rattle.records.proofs.Levels.{masked}
+use Rattle.slots.specs.Inner.{roomOf}
+use Rattle.bits.specs.Inner.{Handed, isKept, recordHere, nothing, cutOff, handOut}
+use Rattle.records.specs.Inner.{isInside, handPiece}
+use Rattle.slots.specs.declared.Inside.{Inside}
+use Rattle.records.proofs.Pieces.{by-origin}
+use Rattle.slots.proofs.Levels.{masked}
 use Rattle.cursor.specs.Inner.{HeldPiece}
 use Rattle.place.specs.Inner.{storedNumber, entered, atPlace}
 

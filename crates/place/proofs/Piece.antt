@@ -17,10 +17,13 @@ use Rattle.values.specs.declared.Coding.{Coding}
 use Rattle.values.specs.declared.Stored.{Stored}
 use Rattle.values.specs.declared.Stored.the-variants.{Every, Active, Childless}
 use Rattle.tree.specs.Active.{Piece, edgeOf, recordAt}
-use Rattle.records.specs.Inner.{isKept, standing, handOut, isInside, handPiece}
-use Rattle.records.specs.declared.Inside.{Inside}
-use Rattle.records.proofs.Laws.{hand-full, by-origin}
-use Rattle.records.proofs.Levels.{masked}
+use Rattle.slots.specs.Inner.{standing}
+use Rattle.bits.specs.Inner.{isKept, handOut}
+use Rattle.records.specs.Inner.{isInside, handPiece}
+use Rattle.slots.specs.declared.Inside.{Inside}
+use Rattle.bits.proofs.Laws.{hand-full}
+use Rattle.records.proofs.Pieces.{by-origin}
+use Rattle.slots.proofs.Levels.{masked}
 use Rattle.cursor.specs.Inner.{HeldPiece}
 use Rattle.nth.specs.Inner.{storedOf, BehindOne}
 use Rattle.place.specs.Inner.{storedNumber, entered, atPlace}

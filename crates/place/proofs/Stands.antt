@@ -18,8 +18,9 @@ use Rattle.tree.specs.Topology.{Node5}
 use Rattle.tree.specs.Blocks.{Filled5}
 use Rattle.tree.specs.Active.{Record, Piece, edgeOf, activeList}
 use Rattle.tree.proofs.Coverage.{Parsed}
-use Rattle.records.specs.Inner.{Handed, isKept, handOut, handPiece}
-use Rattle.records.proofs.Levels.{masked}
+use Rattle.bits.specs.Inner.{Handed, isKept, handOut}
+use Rattle.records.specs.Inner.{handPiece}
+use Rattle.slots.proofs.Levels.{masked}
 use Rattle.cursor.specs.Inner.{Stop, HeldPiece}
 use Rattle.cursor.specs.declared.Cursor.{Cursor}
 use Rattle.cursor.proofs.Whole.{fresh}

@@ -17,9 +17,11 @@ use Rattle.values.specs.declared.Stored.{Stored}
 use Rattle.values.specs.declared.Stored.the-variants.{Every, Active, Childless}
 use Rattle.tree.specs.Active.{Record, Piece}
 use Rattle.tree.specs.Inner.{recordCount}
-use Rattle.records.specs.Slots.{Slots, laid}
-use Rattle.records.specs.Inner.{Handed, maskBytes, standing, handPiece}
-use Rattle.records.specs.declared.Inside.{Inside}
+use Rattle.slots.specs.Slots.{Slots, laidFrom}
+use Rattle.slots.specs.Inner.{maskBytes, standing}
+use Rattle.bits.specs.Inner.{Handed}
+use Rattle.records.specs.Inner.{handPiece}
+use Rattle.slots.specs.declared.Inside.{Inside}
 use Rattle.cursor.specs.Inner.{Stop, betweenRoots, toCome, pieceOf, HeldPiece}
 use Rattle.cursor.specs.declared.Cursor.{Cursor}
 use Rattle.cursor.specs.declared.NextPiece.{NextPiece}
@@ -46,8 +48,8 @@ abbrev pub entered : Piece → Inside
 entered q = record {
   level = q .level;
   origin = q .origin;
-  child = q .child;
-  value = q .value;
+  «child_mask» = q .child;
+  «value_mask» = q .value;
   stored = storedNumber (q .values .stored);
   start = q .values .start;
   from = 0;
@@ -56,7 +58,7 @@ entered q = record {
 
 -- a walk in no piece: it stands as if behind the last place of a leaf, and nothing of it is read
 abbrev pub nowhere : Inside
-nowhere = record { level = 0; origin = (pos 0, pos 0, pos 0); child = 0; value = 0; stored = 0; start = 0; from = 512; number = 0 }
+nowhere = record { level = 0; origin = (pos 0, pos 0, pos 0); «child_mask» = 0; «value_mask» = 0; stored = 0; start = 0; from = 512; number = 0 }
 
 -- What is handed out, and where the walk stands behind it.
 pub record Course : Type 0 where
@@ -119,7 +121,7 @@ pub record Walks (a : Course) (before after : Slots) (r : Stand) : Type 0 where
   pub cursor : r .cursor ≡ a .cursor
   pub inside : r .inside ≡ a .inside
   pub filled : r .filled ≡ length (a .records)
-  pub slots : after ≡ laid before 0 (a .records)
+  pub slots : after ≡ laidFrom before 0 (a .records)
 
 -- The place of a walk after m records.
 unfoldable pub placeFrom : List ℕ → Start → ℕ → Place

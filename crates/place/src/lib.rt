@@ -4,20 +4,20 @@ ghost use mathlib.Core.Bool.{true};
 ghost use Prim.Native.Nat.{_-_, _≤_, _<_, min};
 ghost use Rattle.half.specs.Inner.{isTable, isWidth};
 ghost use Rattle.cursor.specs.Inner.{pieceOf};
-ghost use Rattle.records.specs.Slots.{slotsOf};
-ghost use Rattle.records.specs.Inner.{Room};
+ghost use Rattle.slots.specs.Slots.{slotsOf};
+ghost use Rattle.slots.specs.Inner.{Room};
 ghost use Rattle.skip.specs.Inner.{skipFrom};
 ghost use Rattle.place.specs.Inner.{saysBehind, behindOf, EndsAt, Steps};
 ghost use Rattle.place.specs.Inner.{storedNumber, entered, nowhere, freshPlace, moved, listingFrom, saysListed, nextStand, saysStand, handOn, Walks};
+use bits::Run;
 use coordinates::GlobalCoord;
 use coordinates::Index;
 use cursor::Cursor;
 use cursor::NextPiece;
 use cursor::Piece;
 use masks::NextOne;
-use records::Inside;
-use records::Run;
 use skip::Skipped;
+use slots::Inside;
 use values::Coding;
 use values::Stored;
 
@@ -120,8 +120,8 @@ pub fn fresh(start: Start) -> Place
     let inside = Inside {
         level: 0,
         origin,
-        child: 0,
-        value: 0,
+        child_mask: 0,
+        value_mask: 0,
         stored: 0,
         start: 0,
         from: 512,
@@ -155,8 +155,8 @@ fn enter(q: Piece) -> Inside
     Inside {
         level: q.level,
         origin,
-        child: q.child,
-        value: q.value,
+        child_mask: q.child,
+        value_mask: q.value,
         stored: stored_number(stored),
         start: values.start,
         from: 0,
@@ -174,7 +174,7 @@ fn next_listed(s: &[u8], c: Coding, cursor: Cursor) -> NextPiece
         NextPiece::End => NextPiece::End,
         NextPiece::Refused(k) => NextPiece::Refused(k),
         NextPiece::At(q, behind) => {
-            let n = records::mask_bytes(q.level);
+            let n = slots::mask_bytes(q.level);
             if let NextOne::At(_) = masks::next_one(s, q.value, n, Index(0)) {
                 return NextPiece::At(q, behind);
             }
@@ -298,15 +298,15 @@ fn stand_after(s: &[u8], c: Coding, cursor: Cursor, w: Inside, k: u64) -> Behind
     requires { ⌜ isWidth (c .width) × (0 < k) ⌝ }
     ensures { λ r. ⌜ EndsAt (now (s .entry)) c k cursor w (saysBehind r) ⌝ }
 {
-    let n = records::mask_bytes(w.level);
+    let n = slots::mask_bytes(w.level);
     if 8 * n as u32 <= w.from {
         return stand_on(s, c, cursor, k);
     }
     if !records::is_inside(s, n, w) {
         return Behind::Nothing;
     }
-    let passed = masks::count_ones_below(s, w.value, n, Index(w.from));
-    let left = masks::count_ones(s, w.value, n) - passed;
+    let passed = masks::count_ones_below(s, w.value_mask, n, Index(w.from));
+    let left = masks::count_ones(s, w.value_mask, n) - passed;
     if (left as u64) < k {
         return stand_on(s, c, cursor, k - left as u64);
     }

@@ -5,16 +5,19 @@ use mathlib.Core.Bool.{Bool, true, false, cond}
 use Prim.Native.Nat.{ℕ, zero, suc, _+_, _-_, _*_, _≤_, _<_}
 use native.Mathlib.Nat.{suc-add, zero-add}
 use native.Mathlib.Omega.{arith}
-use lib.Dec.{leb, ltb}
+use lib.Dec.{ltb, leb}
 use lib.ListN.{length}
 use borrow.Author.Tests.{leb-true}
 use Rattle.fields.specs.Parse.{when}
 use Rattle.masks.specs.Masks.{maskBit}
 use Rattle.values.specs.declared.Coding.{Coding}
 use Rattle.tree.specs.Active.{Record}
-use Rattle.records.specs.Inner.{maskBytes, roomOf, isKept, standing, recordHere, Handed, nothing, andThen, follow, handOut, isInside, handPiece}
-use Rattle.records.specs.declared.Inside.{Inside}
-use Rattle.records.proofs.Laws.{hand-keeps, IsInside, inside-back, by-origin}
+use Rattle.slots.specs.Inner.{maskBytes, roomOf, standing}
+use Rattle.bits.specs.Inner.{isKept, recordHere, Handed, nothing, andThen, handOut}
+use Rattle.records.specs.Inner.{isInside, handPiece, follow}
+use Rattle.slots.specs.declared.Inside.{Inside}
+use Rattle.records.proofs.Laws.{hand-keeps}
+use Rattle.records.proofs.Pieces.{IsInside, inside-back, by-origin}
 
 -- h is handed out where m records are wanted, and H where more are. Either h has m, and H is h and then the rest from where h stopped; or h has
 -- fewer, and more slots change nothing.
@@ -48,10 +51,10 @@ module _ (s : List ℕ) (c : Coding) (k : ℕ) where
   hand-cut-at n zero zero w e = full refl (rw (← e))
   hand-cut-at n zero (suc m) w e = short (omega arith) refl
   hand-cut-at n (suc j) zero w e = full refl (rw (zero-add, ← e))
-  hand-cut-at n (suc j) (suc m) w e = rw suc-add (go (hand-cut-at n j) (maskBit s (w .value) (w .from)) (ltb (w .number) (roomOf s c (w .start))) refl refl)
+  hand-cut-at n (suc j) (suc m) w e = rw suc-add (go (hand-cut-at n j) (maskBit s (w .«value_mask») (w .from)) (ltb (w .number) (roomOf s c (w .start))) refl refl)
     where
       go : ((i : ℕ) (v : Inside) → j ≡ n - v .from → Cut (λ v. handOut s c k v (n - v .from)) i (handOut s c i v j) (handOut s c (i + k) v j)) → (a b : Bool) →
-          maskBit s (w .value) (w .from) ≡ a → ltb (w .number) (roomOf s c (w .start)) ≡ b →
+          maskBit s (w .«value_mask») (w .from) ≡ a → ltb (w .number) (roomOf s c (w .start)) ≡ b →
           Cut (λ v. handOut s c k v (n - v .from)) (suc m) (handOut s c (suc m) w (suc j)) (handOut s c (suc (m + k)) w (suc j))
       go later true true d f = rw (d, f) (with-record (recordHere s c w) (later m _ (omega arith)))
       go later true false d f = rw (d, f) (short (omega arith) refl)

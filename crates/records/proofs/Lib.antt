@@ -1,5 +1,5 @@
-pub mod Levels
 pub mod Laws
+pub mod Pieces
+mod Runs
+mod Ways
 pub mod Cut
-pub mod Runs
-mod Ones

@@ -9,7 +9,7 @@ use lib.IntN.{ℤ, pos}
 use lib.ListN.{length, getD, set, take, drop, length-map}
 use lib.Seq.{sets, sets-eq, take-at}
 use Rattle.tree.specs.Active.{Record}
-use Rattle.records.specs.Slots.{Slots, slotCount, laid}
+use Rattle.slots.specs.Slots.{Slots, slotCount, laidFrom}
 use Rattle.walk.specs.Demand3.{rows}
 use Rattle.rows.specs.Rows.{rowOf, columns}
 use Rattle.rows.specs.declared.Record.{Record as Row}
@@ -31,10 +31,10 @@ pub columns-count : (row : List Row) → slotCount (columns row) ≡ length row
 columns-count row = simp length-map (omega arith)
 
 -- records that are stored in the row are laid into its columns
-pub columns-sets : (row : List Row) (i : ℕ) (rs : List Record) → columns (sets row i (map rowOf rs)) ≡ laid (columns row) i rs
-unfolding laid
+pub columns-sets : (row : List Row) (i : ℕ) (rs : List Record) → columns (sets row i (map rowOf rs)) ≡ laidFrom (columns row) i rs
+unfolding laidFrom
 columns-sets row i [] = refl
-columns-sets row i (r ∷ rs) = columns-sets (set row i (rowOf r)) (suc i) rs ∙ ap (λ (t : _). laid t (suc i) rs) (simp map-set)
+columns-sets row i (r ∷ rs) = columns-sets (set row i (rowOf r)) (suc i) rs ∙ ap (λ (t : _). laidFrom t (suc i) rs) (simp map-set)
 
 pub rows-length : (t : Slots) (i n : ℕ) → length (rows t i n) ≡ n
 unfolding rows

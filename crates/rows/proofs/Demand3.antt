@@ -9,8 +9,8 @@ use lib.Seq.{drop-cons}
 use Rattle.archive.specs.Answer.{gives}
 use Rattle.archive.specs.declared.Asked.{Asked}
 use Rattle.tree.specs.Active.{Record, joined}
-use Rattle.records.specs.Slots.{Slots, laid}
-use Rattle.records.proofs.Laws.{same, laid-same}
+use Rattle.slots.specs.Slots.{Slots, laidFrom}
+use Rattle.slots.proofs.Laws.{same, laid-same}
 use Rattle.grid.specs.Grid.{openGrid}
 use Rattle.grid.specs.declared.OpenedGrid.{OpenedGrid}
 use Rattle.place.specs.declared.Place.{Place}
@@ -42,7 +42,7 @@ rows-of row i (suc n) h =
     )
 
 -- a call leaves the row as long as it was
-columns-long : (a b : List Row) (rs : List Record) → columns b ≡ laid (columns a) 0 rs → length b ≡ length a
+columns-long : (a b : List Row) (rs : List Record) → columns b ≡ laidFrom (columns a) 0 rs → length b ≡ length a
 columns-long a b rs e = sym (length-map b (λ (r : Row). r .x)) ∙ ap (λ (t : Slots). length (t .x)) e ∙ laid-same (columns a) 0 rs (same (columns a)) .in-x ∙ length-map a (λ (r : Row). r .x)
 
 call-rows : (s : List ℕ) (p : Place) (a b : List Row) (r : WalkAnswer) → Promise s p (columns a) r (columns b) → map rowOf (inSlots r (columns b)) ≡ inRow r b

@@ -6,7 +6,7 @@ use native.Mathlib.Omega.{arith}
 use lib.IntN.{ℤ}
 use lib.ListN.{length, take, drop, replicate, length-take, List·getD-append}
 use lib.Seq.{length-front}
-use Rattle.records.specs.Slots.{Slots, slotsOf, slotCount}
+use Rattle.slots.specs.Slots.{Slots, slotsOf, slotCount}
 use Rattle.walk.specs.Walk.{saysWalk, Promise}
 use Rattle.walk.specs.Demand3.{rows}
 use Rattle.walk.specs.declared.Walked.{Walked}

@@ -12,7 +12,7 @@ use Rattle.archive.specs.Answer.{gives}
 use Rattle.archive.specs.declared.Asked.{Asked}
 use Rattle.archive.proofs.Laws.{gives-same}
 use Rattle.tree.specs.Active.{Record}
-use Rattle.records.specs.Slots.{Slots, slotCount, laid}
+use Rattle.slots.specs.Slots.{Slots, slotCount, laidFrom}
 use Rattle.grid.specs.Grid.{Grid, grid, activeOf, placeAfter}
 use Rattle.place.specs.declared.Place.{Place}
 use Rattle.walk.specs.Walk.{nextRecords, walkedTo, LeftBehind, Promise}
@@ -73,13 +73,13 @@ says-of s p t (WalkRefused k) t′ q =
       past-end = q .past-end;
     }
 
-pub promise-of : {s : List ℕ} {p : Place} {t : Slots} {r : WalkAnswer} {rs : List Record} {t′ : Slots} → Says s p (slotCount t) r rs → t′ ≡ laid t 0 rs → Promise s p t r t′
-unfolding laid
+pub promise-of : {s : List ℕ} {p : Place} {t : Slots} {r : WalkAnswer} {rs : List Record} {t′ : Slots} → Says s p (slotCount t) r rs → t′ ≡ laidFrom t 0 rs → Promise s p t r t′
+unfolding laidFrom
 promise-of {t = t} {rs = rs} q e =
     record {
-      reached = λ asked name g m a l f. let d = q .reached asked name g m a l f in (d .0, e ∙ ap (laid t 0) (d .1));
+      reached = λ asked name g m a l f. let d = q .reached asked name g m a l f in (d .0, e ∙ ap (laidFrom t 0) (d .1));
       some-records = λ w h. let d = q .some-records w h in (rs, d .0, d .1, e);
-      refused = λ n h. let d = q .refused n h in (d .0, e ∙ ap (laid t 0) (d .1));
+      refused = λ n h. let d = q .refused n h in (d .0, e ∙ ap (laidFrom t 0) (d .1));
       left-behind = q .left-behind;
       no-slots = q .no-slots;
       past-end = q .past-end;

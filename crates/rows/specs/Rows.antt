@@ -5,7 +5,7 @@ use mathlib.Core.List.{List, [], _∷_, map}
 use lib.ListN.{length, take}
 use Rattle.archive.specs.declared.Asked.{Asked}
 use Rattle.tree.specs.Active.{Record, joined}
-use Rattle.records.specs.Slots.{Slots, slotsOf}
+use Rattle.slots.specs.Slots.{Slots, slotsOf}
 use Rattle.grid.specs.Grid.{activeOf}
 use Rattle.grid.specs.declared.OpenedGrid.{OpenedGrid}
 use Rattle.walk.specs.Demand3.{Call, Demand3}

@@ -4,7 +4,7 @@ ghost use mathlib.Core.Path.{_≡_};
 ghost use mathlib.Core.List.{map};
 ghost use Prim.Native.Nat.{_-_, _≤_, min};
 ghost use lib.ListN.{take};
-ghost use Rattle.records.specs.Slots.{slotsOf, slotCount};
+ghost use Rattle.slots.specs.Slots.{slotsOf, slotCount};
 ghost use Rattle.walk.specs.Walk.{Promise};
 ghost use Rattle.walk.specs.Demand3.{rows};
 ghost use Rattle.walk.specs.declared.WalkAnswer.the-variants.{Refused};

@@ -7,7 +7,7 @@ use lib.ListN.{length, length-take, length-drop}
 use Rattle.archive.specs.Answer.{gives}
 use Rattle.archive.specs.declared.Asked.{Asked}
 use Rattle.archive.proofs.Laws.{with-back, gives-same}
-use Rattle.records.specs.Slots.{slotCount}
+use Rattle.slots.specs.Slots.{slotCount}
 use Rattle.grid.specs.Grid.{Grid, grid, openGrid, activeOf, placeAfter}
 use Rattle.grid.specs.declared.OpenedGrid.{OpenedGrid}
 use Rattle.walk.specs.Walk.{saysWalk, nextRecords, walkedTo}

@@ -14,7 +14,7 @@ use Rattle.grid.specs.declared.GridAnswer.the-variants.{Grid as GridIs, Refused
 use Rattle.leaves.specs.declared.FillAnswer.{FillAnswer}
 use Rattle.leaves.specs.declared.FillAnswer.the-variants.{Filled as IsFilled, Refused as FillRefused}
 use Rattle.place.specs.declared.Place.{Place}
-use Rattle.records.specs.Slots.{Slots}
+use Rattle.slots.specs.Slots.{Slots}
 use Rattle.walk.specs.Walk.{saysWalk, Promise}
 use Rattle.walk.specs.declared.Walked.{Walked}
 use Rattle.walk.specs.declared.WalkAnswer.{WalkAnswer}

@@ -41,7 +41,7 @@ use Rattle.tree.specs.Blocks.{filled4, filled5, blocksField}
 use Rattle.grid.specs.Grid.{codingOf, rootLimit, contentField, gridField, grid, openGrid}
 use Rattle.grid.specs.declared.OpenedGrid.{OpenedGrid}
 use Rattle.leaves.specs.Leaves.{leafNumbered, presentLeaf, fillLeaf, fillLeaves}
-use Rattle.records.specs.Slots.{Slots}
+use Rattle.slots.specs.Slots.{Slots}
 use Rattle.walk.specs.Walk.{saysWalk}
 use Rattle.walk.specs.declared.Walked.{Walked}
 use Rattle.words.specs.Words.{at, layout, hasLayout, startBy, placeBy, startWords, wordsOf}

@@ -3,7 +3,7 @@ use Prim.Native.Nat.{ℕ}
 use mathlib.Core.Path.{_≡_}
 use mathlib.Core.List.{List, [], _∷_}
 use Rattle.archive.specs.declared.Asked.{Asked}
-use Rattle.records.specs.Slots.{Slots}
+use Rattle.slots.specs.Slots.{Slots}
 use Rattle.walk.specs.Walk.{saysWalk}
 use Rattle.walk.specs.Demand3.{Call, Demand3}
 use Rattle.walk.specs.declared.Walked.{Walked}

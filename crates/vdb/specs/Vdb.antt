@@ -5,7 +5,7 @@ use mathlib.Core.List.{List, [], _∷_}
 use mathlib.Core.Bool.{false}
 use Rattle.archive.specs.Answer.{Answer, gives, refuses}
 use Rattle.grid.specs.declared.OpenedGrid.{OpenedGrid}
-use Rattle.records.specs.Slots.{Slots}
+use Rattle.slots.specs.Slots.{Slots}
 use Rattle.walk.specs.Walk.{saysWalk, Promise}
 use Rattle.place.specs.declared.Place.{Place}
 use Rattle.walk.specs.declared.Walked.{Walked}

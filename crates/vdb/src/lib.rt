@@ -6,7 +6,7 @@ ghost use lib.ListN.{length};
 ghost use Rattle.archive.specs.Archive.{openFile, gridNamed, gridNumbered, fileEntry, gridEntryNamed, gridEntryNumbered};
 ghost use Rattle.grid.specs.Grid.{openGridNamed, openGridNumbered};
 ghost use Rattle.leaves.specs.Leaves.{fillLeafNamed, fillLeafNumbered, fillLeavesNamed, fillLeavesNumbered};
-ghost use Rattle.records.specs.Slots.{slotsOf};
+ghost use Rattle.slots.specs.Slots.{slotsOf};
 ghost use Rattle.words.specs.Words.{layout};
 ghost use Rattle.outward.specs.Outward.{headerWords, descriptorWords, entryWords};
 ghost use Rattle.vdb.specs.Vdb.{laid, OpenCall, WalkCall};

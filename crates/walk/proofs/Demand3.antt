@@ -10,7 +10,7 @@ use Rattle.archive.specs.Answer.{gives}
 use Rattle.archive.specs.declared.Asked.{Asked}
 use Rattle.archive.proofs.Laws.{with-back, gives-same}
 use Rattle.tree.specs.Active.{Record, joined}
-use Rattle.records.specs.Slots.{Slots, slotCount, put, laid}
+use Rattle.slots.specs.Slots.{Slots, slotCount, put, laidFrom}
 use Rattle.grid.specs.Grid.{Grid, grid, openGrid, openedOf, activeOf, placeAfter}
 use Rattle.grid.specs.declared.OpenedGrid.{OpenedGrid}
 use Rattle.grid.proofs.Coverage.{apart, covered}
@@ -33,8 +33,8 @@ abbrev row : Slots → ℕ → Record
 row t i = record { corner = (getD (t .x) i (pos 0), getD (t .y) i (pos 0), getD (t .z) i (pos 0)); level = getD (t .level) i 0; value = getD (t .value) i 0 }
 
 -- records from slot j on leave the slots before it as they were
-row-kept : (t : Slots) (i j : ℕ) (rs : List Record) → i < j → row (laid t j rs) i ≡ row t i
-unfolding laid
+row-kept : (t : Slots) (i j : ℕ) (rs : List Record) → i < j → row (laidFrom t j rs) i ≡ row t i
+unfolding laidFrom
 row-kept t i j [] h = refl
 row-kept t i j (r ∷ rs) h =
     let n : i ≡ j → ⊥ = λ e. omega arith in
@@ -52,8 +52,8 @@ row-put t i r h =
     )
 
 -- records from slot i on, where there are slots for all, stand there
-pub rows-laid : (t : Slots) (i : ℕ) (rs : List Record) → i + length rs ≤ slotCount t → rows (laid t i rs) i (length rs) ≡ rs
-unfolding laid rows
+pub rows-laid : (t : Slots) (i : ℕ) (rs : List Record) → i + length rs ≤ slotCount t → rows (laidFrom t i rs) i (length rs) ≡ rs
+unfolding laidFrom rows
 rows-laid t i [] h = refl
 rows-laid t i (r ∷ rs) h =
     let here = row-kept (put t i r) i (suc i) rs (omega arith) ∙ row-put t i r (omega arith) in

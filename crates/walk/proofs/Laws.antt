@@ -10,8 +10,8 @@ use borrow.Author.Tests.{ne-eqb, eqb-true, eqb-false}
 use Rattle.fields.specs.Parse.{when}
 use Rattle.half.specs.Inner.{isWidth}
 use Rattle.archive.specs.Answer.{Answer, gives, refuses}
-use Rattle.records.specs.Slots.{Slots, slotCount, laid}
-use Rattle.records.specs.Inner.{Room}
+use Rattle.slots.specs.Slots.{Slots, slotCount, laidFrom}
+use Rattle.slots.specs.Inner.{Room}
 use Rattle.place.specs.Inner.{Course, handOn, moved, Walks}
 use Rattle.place.proofs.Cut.{hand-most}
 use Rattle.place.specs.declared.Place.{Place}
@@ -83,7 +83,7 @@ module _ (s : List ℕ) (p : Place) (t : Slots) where
   does-nothing e d = record { answer = rw (d, e); slots = rw e }
 
   pub not-wide : (wanted p k ≡ 0 → ⊥) → isWide (p .start .coding .width) ≡ false → Does s p t (WalkRefused 22) t
-  unfolding walkFrom found when laid
+  unfolding walkFrom found when laidFrom
   not-wide n e = record { answer = rw (ne-eqb _ 0 n, e); slots = rw (ne-eqb _ 0 n, e) }
 
   module _ (some-wanted : wanted p k ≡ 0 → ⊥) (e : isWide (p .start .coding .width) ≡ true) {t′ : Slots} {v : Stand} (f : Walks (courseFrom s p k) t t′ v) where
@@ -118,16 +118,16 @@ module _ {s : List ℕ} {p : Place} {t : Slots} {r : WalkAnswer} {t′ : Slots} 
   rs = found s p (slotCount t)
 
   does-refuse : (n : ℕ) → saysWalk r ≡ refuses n → (n ≡ 22) × (t′ ≡ t)
-  unfolding walkFrom when laid
+  unfolding walkFrom when laidFrom
   does-refuse n e = go _ _ (eqb (wanted p (slotCount t)) 0) (eqb (length rs) 0) refl (sym e ∙ d .answer) (d .slots)
     where
-      go : (x y : Walked) (a b : Bool) → eqb (length rs) 0 ≡ b → refuses n ≡ when a (gives x) (when b (refuses 22) (gives y)) → t′ ≡ when a t (laid t 0 rs) → (n ≡ 22) × (t′ ≡ t)
+      go : (x y : Walked) (a b : Bool) → eqb (length rs) 0 ≡ b → refuses n ≡ when a (gives x) (when b (refuses 22) (gives y)) → t′ ≡ when a t (laidFrom t 0 rs) → (n ≡ 22) × (t′ ≡ t)
       go x y true b f e g = absurd (refuses-gives e)
       go x y false true f e g = (refuses-same e, g ∙ rw (length-nil rs (eqb-true _ 0 f)))
       go x y false false f e g = absurd (refuses-gives e)
 
-  does-some : (w : Walked) → saysWalk r ≡ gives w → (rs : List Record) × (length rs ≡ w .filled) × (w .filled ≤ slotCount t) × (t′ ≡ laid t 0 rs)
-  unfolding walkFrom when laid
+  does-some : (w : Walked) → saysWalk r ≡ gives w → (rs : List Record) × (length rs ≡ w .filled) × (w .filled ≤ slotCount t) × (t′ ≡ laidFrom t 0 rs)
+  unfolding walkFrom when laidFrom
   does-some w e = go (eqb (wanted p (slotCount t)) 0) (eqb (length rs) 0) refl (sym e ∙ d .answer) (d .slots)
     where
       a : Course
@@ -137,7 +137,7 @@ module _ {s : List ℕ} {p : Place} {t : Slots} {r : WalkAnswer} {t′ : Slots} 
       few = least (slotCount t) (p .left) (hand-most s (p .start .coding) (wanted p (slotCount t)) (p .cursor) (p .inside))
 
       go : (x y : Bool) → eqb (length rs) 0 ≡ y → gives w ≡ when x (gives (record { place = p; filled = 0; left = p .left })) (when y (refuses 22) (gives (stands p a))) →
-          t′ ≡ when x t (laid t 0 rs) → (rs : List Record) × (length rs ≡ w .filled) × (w .filled ≤ slotCount t) × (t′ ≡ laid t 0 rs)
+          t′ ≡ when x t (laidFrom t 0 rs) → (rs : List Record) × (length rs ≡ w .filled) × (w .filled ≤ slotCount t) × (t′ ≡ laidFrom t 0 rs)
       go true y f e g =
           let z : w .filled ≡ 0 = ap (λ (w : Walked). w .filled) (gives-same e) in
           ([], sym z, rw z (omega arith), g)

@@ -12,10 +12,11 @@ use Rattle.fields.proofs.Laws.{field-past}
 use Rattle.coordinates.specs.Coordinates.{places}
 use Rattle.values.specs.declared.Coding.{Coding}
 use Rattle.tree.specs.Active.{edgeOf}
-use Rattle.records.specs.Inner.{handPiece, cutOff}
-use Rattle.records.specs.declared.Inside.{Inside}
-use Rattle.records.proofs.Laws.{no-value-mask}
-use Rattle.records.proofs.Levels.{masked}
+use Rattle.bits.specs.Inner.{cutOff}
+use Rattle.records.specs.Inner.{handPiece}
+use Rattle.slots.specs.declared.Inside.{Inside}
+use Rattle.records.proofs.Pieces.{no-value-mask}
+use Rattle.slots.proofs.Levels.{masked}
 use Rattle.cursor.specs.Inner.{Stop, Onward, after, childrenOf, rest4, rest5, rootsRest, toCome}
 use Rattle.cursor.specs.declared.Cursor.{Cursor}
 use Rattle.cursor.specs.declared.Entered.{Entered}

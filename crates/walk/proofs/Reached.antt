@@ -12,9 +12,9 @@ use Rattle.fields.specs.Parse.{when}
 use Rattle.half.specs.Inner.{isWidth}
 use Rattle.archive.specs.Answer.{gives, refuses}
 use Rattle.tree.specs.Active.{Record}
-use Rattle.records.specs.Slots.{Slots, slotCount, laid}
+use Rattle.slots.specs.Slots.{Slots, slotCount, laidFrom}
 use Rattle.cursor.specs.declared.Cursor.{Cursor}
-use Rattle.records.specs.declared.Inside.{Inside}
+use Rattle.slots.specs.declared.Inside.{Inside}
 use Rattle.place.specs.Inner.{Course, join, handOn, nowhere, freshPlace, moved, placeFrom}
 use Rattle.place.specs.declared.Place.{Place}
 use Rattle.place.proofs.Places.{after-more, after-records}
@@ -96,19 +96,19 @@ module _ (s : List ℕ) (g : Grid) (h : GridRead s g) (m : ℕ) (l : m ≤ lengt
             ((λ i. record { place = stood (n - m - q i) (next (many i) .cursor) (next (many i) .inside); filled = q i; left = n - m - q i })
             ∙ (λ i. record { place = next-place (length rs) i; filled = length rs; left = d i })))
 
-    fills : (t : Slots) → when (eqb (wanted here k) 0) t (laid t 0 (found s here k)) ≡ laid t 0 rs
-    unfolding when laid
+    fills : (t : Slots) → when (eqb (wanted here k) 0) t (laidFrom t 0 (found s here k)) ≡ laidFrom t 0 rs
+    unfolding when laidFrom
     fills t = go (eqb (wanted here k) 0) refl
       where
-        go : (b : Bool) → eqb (wanted here k) 0 ≡ b → when b t (laid t 0 (found s here k)) ≡ laid t 0 rs
+        go : (b : Bool) → eqb (wanted here k) 0 ≡ b → when b t (laidFrom t 0 (found s here k)) ≡ laidFrom t 0 rs
         go true e = rw (length-nil rs (sym many ∙ eqb-true _ 0 e))
         go false e = rw are-found
 
   -- So from the place after m records: the next ones, and the place after these.
   pub does-next :
       (t : Slots) {r : WalkAnswer} {t′ : Slots} → Does s (placeAfter s g m) t r t′ →
-      (saysWalk r ≡ gives (walkedTo s g m (length (nextRecords s g m (slotCount t))))) × (t′ ≡ laid t 0 (nextRecords s g m (slotCount t)))
+      (saysWalk r ≡ gives (walkedTo s g m (length (nextRecords s g m (slotCount t))))) × (t′ ≡ laidFrom t 0 (nextRecords s g m (slotCount t)))
   does-next t {r} {t′} d = go (rw (place-is m) at d)
     where
-      go : Does s here t r t′ → (saysWalk r ≡ gives (walkedTo s g m (length (nextRecords s g m (slotCount t))))) × (t′ ≡ laid t 0 (nextRecords s g m (slotCount t)))
+      go : Does s here t r t′ → (saysWalk r ≡ gives (walkedTo s g m (length (nextRecords s g m (slotCount t))))) × (t′ ≡ laidFrom t 0 (nextRecords s g m (slotCount t)))
       go d = (d .answer ∙ answers (slotCount t), d .slots ∙ fills (slotCount t) t)

@@ -9,7 +9,7 @@ use Rattle.fields.specs.Parse.{when}
 use Rattle.archive.specs.Answer.{gives, refuses}
 use Rattle.archive.specs.declared.Asked.{Asked}
 use Rattle.archive.proofs.Laws.{gives-same}
-use Rattle.records.specs.Slots.{Slots, slotCount}
+use Rattle.slots.specs.Slots.{Slots, slotCount}
 use Rattle.place.specs.Inner.{placeFrom}
 use Rattle.place.specs.declared.Place.{Place}
 use Rattle.place.proofs.Places.{after-none}

@@ -10,7 +10,7 @@ use Rattle.archive.specs.Answer.{gives}
 use Rattle.archive.specs.declared.Asked.{Asked}
 use Rattle.coordinates.specs.declared.GlobalCoord.{GlobalCoord}
 use Rattle.tree.specs.Active.{Record, coveredBy, joined}
-use Rattle.records.specs.Slots.{Slots, slotCount}
+use Rattle.slots.specs.Slots.{Slots, slotCount}
 use Rattle.place.specs.declared.Place.{Place}
 use Rattle.grid.specs.Grid as G
 use Rattle.grid.specs.Grid.{Grid, activeOf, spotOf}

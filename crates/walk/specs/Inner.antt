@@ -9,7 +9,7 @@ use lib.ListN.{length}
 use Rattle.fields.specs.Parse.{when}
 use Rattle.archive.specs.Answer.{Answer, gives, refuses}
 use Rattle.tree.specs.Active.{Record}
-use Rattle.records.specs.Slots.{Slots, slotCount, laid}
+use Rattle.slots.specs.Slots.{Slots, slotCount, laidFrom}
 use Rattle.place.specs.Inner.{Course, handOn, moved}
 use Rattle.place.specs.declared.Place.{Place}
 use Rattle.walk.specs.Walk.{saysWalk}
@@ -43,4 +43,4 @@ walkFrom s p k =
 -- the call does this
 pub record Does (s : List ℕ) (p : Place) (before : Slots) (r : WalkAnswer) (after : Slots) : Type 0 where
   pub answer : saysWalk r ≡ walkFrom s p (slotCount before)
-  pub slots : after ≡ when (eqb (wanted p (slotCount before)) 0) before (laid before 0 (found s p (slotCount before)))
+  pub slots : after ≡ when (eqb (wanted p (slotCount before)) 0) before (laidFrom before 0 (found s p (slotCount before)))

@@ -9,7 +9,7 @@ use Rattle.coordinates.specs.Coordinates.{places}
 use Rattle.archive.specs.Answer.{Answer, gives, refuses}
 use Rattle.archive.specs.declared.Asked.{Asked}
 use Rattle.tree.specs.Active.{Record, edgeOf}
-use Rattle.records.specs.Slots.{Slots, slotCount, laid}
+use Rattle.slots.specs.Slots.{Slots, slotCount, laidFrom}
 use Rattle.grid.specs.Grid.{Grid, grid, activeOf, placeAfter}
 use Rattle.place.specs.declared.Place.{Place}
 use Rattle.walk.specs.declared.Walked.{Walked}
@@ -37,7 +37,7 @@ pub record Needed : Type 0 where
 unfoldable pub neededNext : Place → Needed
 neededNext p =
     when (ltb (p .inside .from) (places (edgeOf (p .inside .level))))
-    (record { start = p .inside .value; bytes = places (edgeOf (p .inside .level)) / 8 })
+    (record { start = p .inside .«value_mask»; bytes = places (edgeOf (p .inside .level)) / 8 })
     (when (eqb (p .cursor .depth) 0) (record { start = p .cursor .«topology_pos»; bytes = 12 })
     (when (eqb (p .cursor .depth) 1) (record { start = p .cursor .node5 .pos; bytes = 4096 })
     (record { start = p .cursor .node4 .pos; bytes = 512 })))
@@ -58,10 +58,10 @@ pub record Promise (s : List ℕ) (p : Place) (before : Slots) (r : WalkAnswer) 
   -- first one on.
   pub reached :
       (asked : Asked) (name : List ℕ) (g : Grid) (m : ℕ) → gives g ≡ grid s asked name → m ≤ length (activeOf s g) → p ≡ placeAfter s g m →
-      (saysWalk r ≡ gives (walkedTo s g m (length (nextRecords s g m (slotCount before))))) × (after ≡ laid before 0 (nextRecords s g m (slotCount before)))
+      (saysWalk r ≡ gives (walkedTo s g m (length (nextRecords s g m (slotCount before))))) × (after ≡ laidFrom before 0 (nextRecords s g m (slotCount before)))
   -- From any place: some records, no more than there are slots, and all other slots are as they were; or 22, and all slots are.
   pub some-records :
-      (w : Walked) → saysWalk r ≡ gives w → (rs : List Record) × (length rs ≡ w .filled) × (w .filled ≤ slotCount before) × (after ≡ laid before 0 rs)
+      (w : Walked) → saysWalk r ≡ gives w → (rs : List Record) × (length rs ≡ w .filled) × (w .filled ≤ slotCount before) × (after ≡ laidFrom before 0 rs)
   pub refused : (k : ℕ) → saysWalk r ≡ refuses k → (k ≡ 22) × (after ≡ before)
   -- What is left behind these records, also from any place.
   pub left-behind : (w : Walked) → saysWalk r ≡ gives w → LeftBehind p (slotCount before) w

@@ -1,7 +1,7 @@
 // Document 01, section 7: the walk call.
 ghost use mathlib.Core.Path.{_≡_};
 ghost use Prim.Native.Nat.{min};
-ghost use Rattle.records.specs.Slots.{slotsOf};
+ghost use Rattle.slots.specs.Slots.{slotsOf};
 ghost use Rattle.walk.specs.Walk.{Promise};
 use place::Place;
 

@@ -5,7 +5,7 @@ use cursor::Cursor;
 use cursor::Entered;
 use place::Place;
 use place::Start;
-use records::Inside;
+use slots::Inside;
 use values::Coding;
 
 pub const COUNT: usize = 35;
@@ -74,8 +74,8 @@ fn inside(mut i: Inside, w: u64, v: u64) -> Inside {
     i.origin = set;
     match w {
         3 => i.level = low(v),
-        4 => i.child = v as usize,
-        5 => i.value = v as usize,
+        4 => i.child_mask = v as usize,
+        5 => i.value_mask = v as usize,
         6 => i.stored = low(v),
         7 => i.start = v as usize,
         8 => i.from = low(v),

@@ -10,7 +10,7 @@ use Rattle.fields.specs.Le.{signed}
 use Rattle.coordinates.specs.declared.GlobalCoord.{GlobalCoord}
 use Rattle.cursor.specs.declared.Cursor.{Cursor}
 use Rattle.cursor.specs.declared.Entered.{Entered}
-use Rattle.records.specs.declared.Inside.{Inside}
+use Rattle.slots.specs.declared.Inside.{Inside}
 use Rattle.place.specs.declared.Start.{Start}
 use Rattle.place.specs.declared.Place.{Place}
 
@@ -67,8 +67,8 @@ unfoldable pub insideBy : List ℕ → ℕ → Inside
 insideBy w k = record {
   level = low32 (at w k);
   origin = coordsBy (at w (k + 1)) (at w (k + 2)) (at w (k + 3));
-  child = at w (k + 4);
-  value = at w (k + 5);
+  «child_mask» = at w (k + 4);
+  «value_mask» = at w (k + 5);
   stored = low32 (at w (k + 6));
   start = at w (k + 7);
   from = low32 (at w (k + 8));
@@ -98,7 +98,7 @@ abbrev pub cursorWords : Cursor → List ℕ
 cursorWords c = c .depth ∷ c .«roots_left» ∷ enteredWords (c .node5) ++ enteredWords (c .node4) ++ c .«topology_pos» ∷ c .«block_pos» ∷ []
 
 abbrev pub insideWords : Inside → List ℕ
-insideWords w = w .level ∷ coordWords (w .origin) ++ w .child ∷ w .value ∷ w .stored ∷ w .start ∷ w .from ∷ w .number ∷ []
+insideWords w = w .level ∷ coordWords (w .origin) ++ w .«child_mask» ∷ w .«value_mask» ∷ w .stored ∷ w .start ∷ w .from ∷ w .number ∷ []
 
 -- the last four are 0: room for what a later place may hold
 unfoldable pub wordsOf : Place → List ℕ

@@ -9,7 +9,7 @@ use cursor::Cursor;
 use cursor::Entered;
 use place::Place;
 use place::Start;
-use records::Inside;
+use slots::Inside;
 use values::Coding;
 
 const LAYOUT: u32 = 1;
@@ -89,8 +89,8 @@ fn inside_of(w: [u64; 40]) -> Inside
     Inside {
         level: low(w[26]),
         origin,
-        child: w[30] as usize,
-        value: w[31] as usize,
+        child_mask: w[30] as usize,
+        value_mask: w[31] as usize,
         stored: low(w[32]),
         start: w[33] as usize,
         from: low(w[34]),
@@ -215,8 +215,8 @@ fn inside_words(w: Inside) -> [u64; 10]
         o[0],
         o[1],
         o[2],
-        w.child as u64,
-        w.value as u64,
+        w.child_mask as u64,
+        w.value_mask as u64,
         word(w.stored),
         w.start as u64,
         word(w.from),

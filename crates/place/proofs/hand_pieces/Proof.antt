@@ -3,9 +3,10 @@ use borrow.Author.Needs.{needs}
 use Prim.Native.Nat.{_-_}
 use lib.ListN.{length}
 use Rattle.fields.proofs.Laws.{told}
-use Rattle.records.specs.Slots.{slotsOf}
-use Rattle.records.specs.Inner.{Room}
-use Rattle.records.proofs.Laws.{Same, same, fills-same, room-same}
+use Rattle.slots.specs.Slots.{slotsOf}
+use Rattle.slots.specs.Inner.{Room}
+use Rattle.slots.proofs.Laws.{Same, same, room-same}
+use Rattle.bits.proofs.Laws.{fills-same}
 use Rattle.place.specs.Inner.{listingFrom, handOn, saysStand}
 use Rattle.place.proofs.Laws.{Coming, comes, stops-so, goes-next}
 use Rattle.place.proofs.hand_pieces.Statement.{statement}

@@ -5,8 +5,9 @@ use mathlib.Core.Path.{_≡_, sym, _∙_}
 use mathlib.Core.Bool.{true}
 use Prim.Native.Nat.{_-_, _*_, _<_}
 use native.Mathlib.Omega.{arith}
-use Rattle.records.specs.Inner.{maskBytes, isInside}
-use Rattle.records.proofs.Levels.{level-small}
+use Rattle.slots.specs.Inner.{maskBytes}
+use Rattle.records.specs.Inner.{isInside}
+use Rattle.slots.proofs.Levels.{level-small}
 use Rattle.place.proofs.Found.{passedIn, leftIn, ends-past, ends-outside, masks-there, passed-fewer, left-there, ends-later, has-here, ends-here}
 use Rattle.place.proofs.stand_after.Statement.{statement}
 use Rattle.place.proofs.stand_after.Tie as tie

@@ -5,10 +5,11 @@ use mathlib.Core.Bool.{true}
 use Prim.Native.Nat.{ℕ, _+_, _≤_, _<_}
 use native.Mathlib.Omega.{arith}
 use Rattle.masks.specs.Masks.{digit}
-use Rattle.records.proofs.Levels.{masked}
-use Rattle.records.proofs.Laws.{starts, ends-so, room-less}
-use Rattle.records.proofs.Runs.{full-there, all-ones, run-inside, word-whole, run-fills}
-use Rattle.records.proofs.Ones.{leaf-there}
+use Rattle.slots.proofs.Levels.{masked}
+use Rattle.slots.proofs.Laws.{room-less}
+use Rattle.bits.proofs.Laws.{starts, ends-so}
+use Rattle.records.proofs.Ways.{full-there, leaf-there}
+use Rattle.records.proofs.Runs.{all-ones, run-inside, word-whole, run-fills}
 use Rattle.records.proofs.fill_word.Statement.{statement}
 use Rattle.records.proofs.fill_word.Tie as tie
 
@@ -17,11 +18,11 @@ module _ (c : tie.Then1) where
   abbrev start : tie.Start
   start = c .before .before .before .before .before .before
 
-  full : let a = start .args in (a .word .value ≡ 18446744073709551615) × (a .slot + 64 ≤ a .limit) × (a .word .inside .number + 64 ≤ a .room)
+  full : let a = start .args in (a .word .ones ≡ 18446744073709551615) × (a .slot + 64 ≤ a .limit) × (a .word .inside .number + 64 ≤ a .room)
   full = full-there _ _ _ _ (sym (c .before .is-full .ensures) ∙ c .if1 .taken)
 
-  active : (q : ℕ) → q < 64 → digit (start .args .word .value) q ≡ true
-  active q h = all-ones _ q (full .0) h
+  active : (q : ℕ) → q < 64 → digit (start .args .word .ones) q ≡ true
+  active q h = all-ones 64 _ q (full .0) h
 
   inside : 64 ≤ start .args .word .left
   inside = run-inside _ (start .args .c) _ (start .pre .1) 64 active
@@ -29,11 +30,19 @@ module _ (c : tie.Then1) where
   few-places : start .args .word .inside .from + 64 ≤ 32768
   few-places = let m = masked (start .args .word .inside .level) in omega (arith, inside, start .pre .1 .places, m .small, m .bits)
 
+-- back from where a full word is filled in, and from behind that
+abbrev full-word : tie.After-fill-full → tie.Then1
+full-word c = c .before .before .before .before .before .before .before
+
+abbrev written : tie.After-struct-known → tie.After-fill-full
+written c = c .before .before .before .before .before .before .before .before
+
 returns : tie.Need-returns
 returns c =
-    let t = c .before .before .before .before .before .before .before .before .before .before .before .before .before .before .before .before in
+    let f = written (c .before) in
+    let t = full-word f in
     let p = start t .pre in
-    ends-so (run-fills _ _ _ 64 (c .before .before .before .before .before .before .before .before .before .fill-full .ensures)) (starts _ _ _)
+    ends-so (run-fills _ _ _ 64 (f .fill-full .ensures)) (starts _ _ _)
     (word-whole _ (start t .args .c) _ (p .1) 64 (active t) _ (omega (arith, full t .1)) (omega (arith, full t .2, p .0 .values)) (p .1 .word))
 
 pub fill-word-spec : {M : Type 1} → statement M
@@ -44,30 +53,15 @@ fill-word-spec =
     (λ c κs.
     let t = c .before .before .before .before .before .before in
     let p = start t .pre in (p .0, omega (arith, inside t, p .1 .places), full t .2, room-less _ (full t .1) (p .2)))
-    (λ c. omega (arith, few-places (c .before .before .before .before .before .before .before .before .before .before .before .before .before .before .before)))
-    (λ c. let t = c .before .before .before .before .before .before .before .before .before .before .before .before .before .before .before .before in omega (arith, few-places t, start t .pre .0 .number))
-    (λ c. let t = c .before .before .before .before .before .before .before .before .before .before .before .before .before .before .before .before in omega (arith, full t .1, start t .fits .limit))
-    (λ c. search needs)
-    (λ c. search needs)
-    (λ c. search needs)
-    (λ c. search needs)
-    (λ c. search needs)
+    (λ c. omega (arith, few-places (full-word (written c))))
+    (λ c. let t = full-word (written (c .before)) in omega (arith, few-places t, start t .pre .0 .number))
+    (λ c. let t = full-word (written (c .before)) in omega (arith, full t .1, start t .fits .limit))
+    (λ c. search needs) (λ c. search needs) (λ c. search needs) (λ c. search needs) (λ c. search needs)
     returns
     (λ c κs. search needs)
-    (λ c κs.
-    let t = c .before .before .before .before .before in
-    let p = t .before .before .before .before .before .before .before .before .pre in
-    (p .0, p .1, leaf-there _ _ (sym (t .before .is-leaf .ensures) ∙ t .if2 .taken), p .2))
-    (λ c. search needs)
-    (λ c. search needs)
-    (λ c. search needs)
-    (λ c. search needs)
-    (λ c. search needs)
+    (λ c κs. let t = c .before .before .before .before .before in (search needs, search needs, leaf-there _ _ (sym (t .before .is-leaf .ensures) ∙ t .if2 .taken), search needs))
+    (λ c. search needs) (λ c. search needs) (λ c. search needs) (λ c. search needs) (λ c. search needs)
     (λ c. search needs)
     (λ c κs. search needs)
-    (λ c. search needs)
-    (λ c. search needs)
-    (λ c. search needs)
-    (λ c. search needs)
-    (λ c. search needs)
+    (λ c. search needs) (λ c. search needs) (λ c. search needs) (λ c. search needs) (λ c. search needs)
     (λ c. search needs))

@@ -5,10 +5,13 @@ use mathlib.Core.Bool.{true}
 use Prim.Native.Nat.{_+_, _-_, _*_, _%_, _<_, _≤_}
 use native.Mathlib.Omega.{arith}
 use borrow.Author.Tests.{not-true, not-false}
-use Rattle.records.specs.Slots.{slotsOf}
-use Rattle.records.specs.Inner.{Room, handOut, Readable, Masks}
-use Rattle.records.proofs.Laws.{Going, Same, same, part-on, starts, ends, ends-so, fills-same, room-same, hand-full}
-use Rattle.records.proofs.Laws.{hand-readable, hand-masks, hand-done, run-is, word-on, word-cut, word-passed}
+use Rattle.slots.specs.Slots.{slotsOf}
+use Rattle.slots.specs.Inner.{Room, Readable}
+use Rattle.bits.specs.Inner.{handOut}
+use Rattle.records.specs.Inner.{Masks}
+use Rattle.slots.proofs.Laws.{Same, same, room-same}
+use Rattle.bits.proofs.Laws.{Going, starts, ends, ends-so, fills-same, hand-full, run-is}
+use Rattle.records.proofs.Laws.{part-on, hand-readable, hand-masks, hand-done, word-on, word-cut, word-passed}
 use Rattle.records.proofs.fill_words.Statement.{statement}
 use Rattle.records.proofs.fill_words.Tie as tie
 
@@ -23,57 +26,65 @@ Inv-loop table s c room n slot limit x₀ y₀ z₀ level₀ value₀ t₀ i₀ 
 abbrev μ-loop : tie.MeasureT-loop
 μ-loop table s c room n slot limit x₀ y₀ z₀ level₀ value₀ t₀ i₀ x y z level value t i = n - i
 
--- the place before the word was filled in
-abbrev began : tie.After-fill-word Inv-loop μ-loop → tie.After-word-at Inv-loop μ-loop
-began c = c .before .before .before .before .before .before
+-- back from the loop to the function's start, from where a word is looked for to its turn of the loop, and from where it is filled in to there
+abbrev start : tie.At-loop Inv-loop μ-loop → tie.Start Inv-loop μ-loop
+start c = c .before .before .before .before .before .before
 
-next-place :
-    (c : tie.After-word-at Inv-loop μ-loop) →
-    c .before .before .before .before .before .loop .t .inside .from < 8 * c .before .before .before .before .before .before .before .before .before .before .before .args .n
+abbrev turn : tie.Else1 Inv-loop μ-loop → tie.At-loop Inv-loop μ-loop
+turn c = c .before .before .before
+
+abbrev sought : tie.After-word-at Inv-loop μ-loop → tie.Else1 Inv-loop μ-loop
+sought c = c .before .before
+
+abbrev found : tie.After-fill-word Inv-loop μ-loop → tie.After-word-at Inv-loop μ-loop
+found c = c .before .before .before .before .before .before
+
+abbrev filled : tie.After-struct-known3 Inv-loop μ-loop → tie.After-fill-word Inv-loop μ-loop
+filled c = c .before .before .before .before .before .before .before .before
+
+next-place : (c : tie.Else1 Inv-loop μ-loop) → let l = turn c in l .loop .t .inside .from < 8 * start l .args .n
 next-place c =
-    let l = c .before .before .before .before .before .loop in
-    let here = l .inv .4 (c .before .before .if1 .left) in
-    omega (arith, c .before .before .before .before .loop-test .taken, l .inv .1 .value .words, l .inv .3, here .1)
+    let l = turn c .loop in
+    omega (arith, c .before .before .loop-test .taken, l .inv .1 .value .words, l .inv .3, l .inv .4 (c .if1 .left) .1)
 
 fill-word-requires : tie.Need-fill-word-requires Inv-loop μ-loop
 fill-word-requires c κs =
     let w = c .before .before .before .before .before in
-    let l = w .before .before .before .before .before .loop in
+    let l = turn (sought w) .loop in
     (rw (w .word-at .ensures .1) (l .inv .0), w .word-at .ensures .0, l .inv .5)
-
-abbrev cut-off : tie.Then2 Inv-loop μ-loop → tie.After-fill-word Inv-loop μ-loop
-cut-off c = c .before .before .before .before .before .before .before .before .before
 
 loop-again : tie.Need-loop-again Inv-loop μ-loop
 loop-again c =
-    let g = c .before .before .before .before .before .before .before .before .before in
-    let w = began g in
-    let l = w .before .before .before .before .before .loop in
+    let g = filled (c .before) in
+    let w = found g .word-at in
+    let place = sought (found g) in
+    let l = turn place .loop in
     let f = g .fill-word .ensures in
-    let e = w .word-at .ensures in
+    let e = w .ensures in
     let all = sym (f .whole) ∙ not-false _ (c .if2 .left) in
-    let here = l .inv .4 (w .before .before .if1 .left) in
-    let inside = next-place w in (
+    let here = l .inv .4 (place .if1 .left) in
+    let inside = next-place place in (
       rw (f .inside) (hand-readable _ _ _ _ _ _ _ (rw (e .1) (l .inv .0))),
       rw (f .inside) (hand-masks _ _ _ _ _ (rw (e .1) (l .inv .1))),
       not-false _ (c .if2 .left),
       omega (arith, l .inv .3),
       (λ k.
-          let p = word-passed _ _ _ (l .t .inside) (w .word-at .result) (e .1) (e .2) (l .inv .1 .value .words) inside _ all (omega (arith, k, f .filled)) in
+          let p = word-passed _ _ _ (l .t .inside) (w .result) (e .1) (e .2) (l .inv .1 .value .words) inside _ all (omega (arith, k, f .filled)) in
           (rw (f .inside) (omega (arith, p, here .0, here .1, l .inv .3, e .2)), rw (f .inside) (omega (arith, p, here .0, here .1, l .inv .3, e .2)))),
       room-same (fills-same f (same _)) (l .inv .5),
       fills-same f (l .inv .6),
-      part-on _ _ _ _ f (l .inv .7) (word-on _ _ _ (l .t .inside) (w .word-at .result) (e .1) (e .2) (l .inv .1 .value .words) inside _ all),
+      part-on _ _ _ _ f (l .inv .7) (word-on _ _ _ (l .t .inside) (w .result) (e .1) (e .2) (l .inv .1 .value .words) inside _ all),
     )
 
 returns-3 : tie.Need-returns-3 Inv-loop μ-loop
 returns-3 c =
-    let g = c .before .before .before .before .before .before .before .before .before in
-    let w = began g in
-    let l = w .before .before .before .before .before .loop in
+    let g = filled (c .before) in
+    let w = found g .word-at in
+    let place = sought (found g) in
+    let l = turn place .loop in
     let f = g .fill-word .ensures in
-    let e = w .word-at .ensures in
-    ends-so f (l .inv .7) (word-cut _ _ _ (l .t .inside) (w .word-at .result) (e .1) (e .2) (l .inv .1 .value .words) (next-place w) _ (sym (f .whole) ∙ not-true _ (c .if2 .taken)))
+    let e = w .ensures in
+    ends-so f (l .inv .7) (word-cut _ _ _ (l .t .inside) (w .result) (e .1) (e .2) (l .inv .1 .value .words) (next-place place) _ (sym (f .whole) ∙ not-true _ (c .if2 .taken)))
 
 pub fill-words-spec : {M : Type 1} → statement M
 fill-words-spec =
@@ -83,26 +94,18 @@ fill-words-spec =
     μ-loop
     (λ c. search needs) (λ c. search needs)
     (λ c. let p = c .before .before .before .before .before .pre in (p .0, p .1, refl, omega arith, (λ l. (omega arith, omega arith)), p .3, same _, starts _ _ _))
-    (λ c κs. let l = c .before .before .before .before .loop in (l .inv .1, omega (arith, l .inv .1 .value .words, l .inv .3, l .inv .4 (omega arith) .1)))
+    (λ c κs. (turn (c .before) .loop .inv .1, next-place (c .before)))
     fill-word-requires
-    (λ c. let l = began (c .before .before .before .before .before .before .before .before .before) .before .before .before in omega (arith, l .before .loop-test .taken))
-    (λ c. let l = began (c .before .before .before .before .before .before .before .before .before) .before .before .before in omega (arith, l .before .loop-test .taken))
+    (λ c. let w = sought (found (filled (c .before))) in omega (arith, w .before .before .loop-test .taken))
+    (λ c. let w = sought (found (filled (c .before))) in omega (arith, w .before .before .loop-test .taken))
     loop-again
-    (λ c. c .before .loop .inv .6 .in-x)
-    (λ c. c .before .loop .inv .6 .in-y)
-    (λ c. c .before .loop .inv .6 .in-z)
-    (λ c. c .before .loop .inv .6 .in-level)
-    (λ c. c .before .loop .inv .6 .in-value)
+    (λ c. search needs) (λ c. search needs) (λ c. search needs) (λ c. search needs) (λ c. search needs)
     (λ c. let l = c .before .loop in ends (l .inv .7) (hand-done _ _ _ (l .t .filled) _ (l .t .inside) (λ k. omega (arith, l .inv .4 k .0))) (run-is refl (l .inv .2)))
-    (λ c. c .before .before .before .loop .inv .6 .in-x)
-    (λ c. c .before .before .before .loop .inv .6 .in-y)
-    (λ c. c .before .before .before .loop .inv .6 .in-z)
-    (λ c. c .before .before .before .loop .inv .6 .in-level)
-    (λ c. c .before .before .before .loop .inv .6 .in-value)
+    (λ c. search needs) (λ c. search needs) (λ c. search needs) (λ c. search needs) (λ c. search needs)
     (λ c. let l = c .before .before .before .loop in ends (l .inv .7) (hand-full _ _ _ (l .t .filled) (l .t .inside) _ (c .if1 .taken)) (run-is refl (l .inv .2)))
-    (λ c. let g = cut-off c in fills-same (g .fill-word .ensures) (began g .before .before .before .before .before .loop .inv .6) .in-x)
-    (λ c. let g = cut-off c in fills-same (g .fill-word .ensures) (began g .before .before .before .before .before .loop .inv .6) .in-y)
-    (λ c. let g = cut-off c in fills-same (g .fill-word .ensures) (began g .before .before .before .before .before .loop .inv .6) .in-z)
-    (λ c. let g = cut-off c in fills-same (g .fill-word .ensures) (began g .before .before .before .before .before .loop .inv .6) .in-level)
-    (λ c. let g = cut-off c in fills-same (g .fill-word .ensures) (began g .before .before .before .before .before .loop .inv .6) .in-value)
+    (λ c. let g = filled (c .before) in fills-same (g .fill-word .ensures) (turn (sought (found g)) .loop .inv .6) .in-x)
+    (λ c. let g = filled (c .before) in fills-same (g .fill-word .ensures) (turn (sought (found g)) .loop .inv .6) .in-y)
+    (λ c. let g = filled (c .before) in fills-same (g .fill-word .ensures) (turn (sought (found g)) .loop .inv .6) .in-z)
+    (λ c. let g = filled (c .before) in fills-same (g .fill-word .ensures) (turn (sought (found g)) .loop .inv .6) .in-level)
+    (λ c. let g = filled (c .before) in fills-same (g .fill-word .ensures) (turn (sought (found g)) .loop .inv .6) .in-value)
     returns-3)

@@ -1,6 +1,6 @@
 -- Each way out is one law: not all bits are set, the slots are too few, the values are too few, or all is there.
 use native.Mathlib.Omega.{arith}
-use Rattle.records.proofs.Runs.{no-ones, no-slots, no-values, all-there}
+use Rattle.records.proofs.Ways.{no-ones, no-slots, no-values, all-there}
 use Rattle.records.proofs.is_full.Statement.{statement}
 use Rattle.records.proofs.is_full.Tie as tie
 

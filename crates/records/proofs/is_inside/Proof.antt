@@ -1,7 +1,7 @@
 -- Each way out is one law: the value mask, the child mask, the number of stored places, and at last the origin.
 use borrow.Author.Needs.{needs}
 use native.Mathlib.Omega.{arith}
-use Rattle.records.proofs.Laws.{no-value-mask, no-child-mask, no-number, by-origin}
+use Rattle.records.proofs.Pieces.{no-value-mask, no-child-mask, no-number, by-origin}
 use Rattle.records.proofs.is_inside.Statement.{statement}
 use Rattle.records.proofs.is_inside.Tie as tie
 

@@ -1,7 +1,7 @@
 -- Each way out is one law: it is no leaf, it is stored otherwise, the values are too few, or all is there.
 use borrow.Author.Needs.{needs}
 use native.Mathlib.Omega.{arith}
-use Rattle.records.proofs.Ones.{no-leaf, no-stored, no-room, is-there}
+use Rattle.records.proofs.Ways.{no-leaf, no-stored, no-room, is-there}
 use Rattle.records.proofs.is_leaf.Statement.{statement}
 use Rattle.records.proofs.is_leaf.Tie as tie
 

@@ -3,7 +3,7 @@ use borrow.Author.Needs.{needs, sfits-of}
 use native.Mathlib.Omega.{arith}
 use Prim.Native.Nat.{_-_}
 use mir.Facts.{toZ-ofZ}
-use Rattle.records.specs.Slots.{slotsOf}
+use Rattle.slots.specs.Slots.{slotsOf}
 use Rattle.rows.proofs.Columns.{Storing, storing, stores, stored}
 use Rattle.rows.proofs.in_a_row.Statement.{statement}
 use Rattle.rows.proofs.in_a_row.Tie as tie

@@ -3,7 +3,7 @@ use borrow.Author.Needs.{needs}
 use mathlib.Core.Path.{_≡_, refl, sym, _∙_}
 use mathlib.Core.Bool.{true}
 use borrow.Author.Tests.{not-true, not-false}
-use Rattle.records.specs.Slots.{Slots, slotsOf, slotCount}
+use Rattle.slots.specs.Slots.{Slots, slotsOf, slotCount}
 use Rattle.place.proofs.Laws.{walks-same}
 use Rattle.walk.specs.Inner.{isWide, wanted}
 use Rattle.walk.proofs.Wide.{wide-width, told-wide}

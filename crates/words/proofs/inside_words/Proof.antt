@@ -14,12 +14,12 @@ returns c =
     let stored = c .before .word2 .ensures in
     let from = c .word3 .ensures in (
       λ i.
-          level .0 i ∷ at (o .0 i) 0 ∷ at (o .0 i) 1 ∷ at (o .0 i) 2 ∷ w .child ∷ w .value ∷ stored .0 i ∷ w .start ∷ from .0 i ∷ w .number ∷ [],
+          level .0 i ∷ at (o .0 i) 0 ∷ at (o .0 i) 1 ∷ at (o .0 i) 2 ∷ w .«child_mask» ∷ w .«value_mask» ∷ stored .0 i ∷ w .start ∷ from .0 i ∷ w .number ∷ [],
       λ i. record {
         level = level .1 i;
         origin = o .1 i;
-        child = w .child;
-        value = w .value;
+        «child_mask» = w .«child_mask»;
+        «value_mask» = w .«value_mask»;
         stored = stored .1 i;
         start = w .start;
         from = from .1 i;

@@ -1,0 +1,48 @@
+-- A run: slots filled one after the other, slice by slice, have the records of as many places.
+use mathlib.Core.Path.{_≡_, refl, ap, _∙_}
+use mathlib.Core.List.{List, [], _∷_}
+use Prim.Native.Nat.{ℕ, zero, suc, _+_}
+use native.Mathlib.Numerals.{add-one}
+use native.Mathlib.Omega.{arith}
+use lib.ListN.{length, length-append, set}
+use Rattle.values.specs.declared.Coding.{Coding}
+use Rattle.coordinates.specs.declared.GlobalCoord.{GlobalCoord}
+use Rattle.slots.specs.Slots.{Slots, put, slotsOf, laidFrom}
+use Rattle.slots.specs.Inner.{recordOf, cornerAt, valueAt, runOf, ranged, axisOf}
+use Rattle.slots.specs.declared.Inside.{Inside}
+use Rattle.slots.proofs.Laws.{laid-append}
+
+-- an axis that is neither x nor y
+pub axis-last : (o : GlobalCoord) (n : ℕ) → (n ≡ 0 → ⊥) → (n ≡ 1 → ⊥) → o .2 ≡ axisOf o n
+axis-last o zero a b = absurd (a refl)
+axis-last o (suc zero) a b = absurd (b refl)
+axis-last o (suc (suc n)) a b = refl
+
+-- elements set one after the other
+pub ranged-none : {A : Type 0} (xs : List A) (i : ℕ) (f : ℕ → A) → xs ≡ ranged xs i 0 f
+unfolding ranged
+ranged-none xs i f = refl
+
+pub ranged-next : {A : Type 0} (xs : List A) (i k : ℕ) (f : ℕ → A) {ys : List A} {v : A} → ys ≡ ranged xs i k f → v ≡ f k → set ys (i + k) v ≡ ranged xs i (k + 1) f
+unfolding ranged
+ranged-next xs i k f e d = rw (add-one k) (λ q. set (e q) (i + k) (d q))
+
+module _ (s : List ℕ) (c : Coding) (w : Inside) where
+  pub length-run : (n : ℕ) → length (runOf s c w n) ≡ n
+  unfolding runOf
+  length-run zero = refl
+  length-run (suc n) = omega (arith, length-append (runOf s c w n) (recordOf (cornerAt w n) (w .level) (valueAt s c w n) ∷ []), length-run n)
+
+  module _ (t : Slots) (i : ℕ) where
+    -- one more record
+    pub laid-run : (n : ℕ) → laidFrom t i (runOf s c w (suc n)) ≡ put (laidFrom t i (runOf s c w n)) (i + n) (recordOf (cornerAt w n) (w .level) (valueAt s c w n))
+    unfolding runOf laidFrom
+    laid-run n = laid-append t i (runOf s c w n) _ ∙ rw length-run
+
+    -- slice by slice
+    pub laid-ranged :
+        (n : ℕ) → laidFrom t i (runOf s c w n) ≡ slotsOf (ranged (t .x) i n (λ k. axisOf (cornerAt w k) 0)) (ranged (t .y) i n (λ k. axisOf (cornerAt w k) 1))
+        (ranged (t .z) i n (λ k. axisOf (cornerAt w k) 2)) (ranged (t .level) i n (λ k. w .level)) (ranged (t .value) i n (valueAt s c w))
+    unfolding runOf laidFrom ranged
+    laid-ranged zero = refl
+    laid-ranged (suc n) = laid-run n ∙ ap (λ (u : Slots). put u (i + n) (recordOf (cornerAt w n) (w .level) (valueAt s c w n))) (laid-ranged n)
