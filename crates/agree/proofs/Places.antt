@@ -7,10 +7,10 @@ use lib.ListN.{length}
 use Rattle.fields.specs.Parse.{when}
 use Rattle.fields.proofs.Laws.{then-got, Always, then-always, check-always, got-always}
 use Rattle.fields.proofs.Agree.{Each}
-use Rattle.archive.specs.Answer.{gives, present}
-use Rattle.archive.specs.Archive.{fileAsked}
+use Rattle.fields.specs.Answer.{gives}
+use Rattle.archive.specs.Archive.{present, fileAsked}
 use Rattle.archive.specs.declared.Asked.{Asked}
-use Rattle.archive.proofs.Laws.{with-back, answer-back}
+use Rattle.fields.proofs.Answers.{with-back, answer-back}
 use Rattle.header.specs.declared.ArchiveHeader.{ArchiveHeader}
 use Rattle.descriptor.specs.declared.GridDescriptor.{GridDescriptor}
 use Rattle.transform.proofs.Agree.{transform-reads}

@@ -1,6 +1,6 @@
 -- What the answers of the public calls say.
 use Rattle.metadata.specs.declared.MetadataValue.{MetadataValue}
-use Rattle.archive.specs.Answer.{Answer, gives, refuses}
+use Rattle.fields.specs.Answer.{Answer, gives, refuses}
 use Rattle.header.specs.declared.ArchiveHeader.{ArchiveHeader}
 use Rattle.descriptor.specs.declared.GridDescriptor.{GridDescriptor}
 use Rattle.answers.specs.declared.HeaderAnswer.{HeaderAnswer}

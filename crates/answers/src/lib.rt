@@ -1,7 +1,6 @@
 // Section 2 of document 01: the answers of a file, by name and by number. Each opens the whole file first.
 ghost use mathlib.Core.Path.{_≡_};
-ghost use Rattle.archive.specs.Archive.{openFile, gridAsked, gridNamed, gridNumbered};
-ghost use Rattle.archive.specs.Archive.{entryAt, fileEntry, gridEntry, gridEntryNamed, gridEntryNumbered};
+ghost use Rattle.archive.specs.Archive.{openFile, gridAsked, gridNamed, gridNumbered, entryAt, fileEntry, gridEntry, gridEntryNamed, gridEntryNumbered};
 ghost use Rattle.answers.specs.Answers.{saysHeaderAnswer, saysDescriptorAnswer, saysEntryAnswer};
 use archive::Asked;
 use archive::FileAnswer;

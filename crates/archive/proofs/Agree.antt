@@ -17,11 +17,11 @@ use Rattle.header.specs.declared.ArchiveHeader.{ArchiveHeader}
 use Rattle.header.proofs.Agree.{header-tells}
 use Rattle.descriptor.specs.declared.GridDescriptor.{GridDescriptor}
 use Rattle.descriptor.proofs.Agree.{SameDescriptor, SameNames, descriptor-again}
-use Rattle.archive.specs.Answer.{gives, answer}
+use Rattle.fields.specs.Answer.{gives, answer}
 use Rattle.archive.specs.Archive.{repeated, descriptors, file, File, isAsked, AskedFile, fileAsked}
 use Rattle.archive.specs.declared.Asked.{Asked}
 use Rattle.archive.specs.declared.Asked.the-variants as A
-use Rattle.archive.proofs.Laws.{with-gives, with-back, gives-same, answer-got, answer-back}
+use Rattle.fields.proofs.Answers.{with-gives, with-back, gives-same, answer-got, answer-back}
 
 repeated-same : (s t name : List ℕ) (ws : List Span) → Each (SameBytes s t) ws → repeated s name ws ≡ repeated t name ws
 unfolding repeated

@@ -13,9 +13,9 @@ use Rattle.fields.specs.Fields.{bytesOf, sameBytes}
 use Rattle.fields.specs.declared.Span.{Span}
 use Rattle.fields.proofs.Laws.{then-got, then-fails, check-passes, check-fails, then-then, check-then, told}
 use Rattle.metadata.specs.Metadata.{latest}
-use Rattle.archive.specs.Answer.{Answer, gives, refuses, answer, with, present}
+use Rattle.fields.specs.Answer.{Answer, gives, refuses, answer, with}
+use Rattle.archive.specs.Archive.{present, repeated, descriptors, File, file, openFile, isAsked, AskedFile, askedOf, fileAsked}
 use Rattle.header.specs.Header.{header}
-use Rattle.archive.specs.Archive.{repeated, descriptors, File, file, openFile, isAsked, AskedFile, askedOf, fileAsked}
 use Rattle.archive.specs.Inner.{nextField, gridsField}
 use Rattle.header.specs.declared.ArchiveHeader.{ArchiveHeader}
 use Rattle.archive.specs.declared.Asked.{Asked}
@@ -26,59 +26,11 @@ use Rattle.descriptor.specs.declared.GridDescriptor.{GridDescriptor}
 pub asked-is : {asked asked′ : Asked} (s name : List ℕ) (i : ℕ) (d : GridDescriptor) {x : Bool} → asked ≡ asked′ → x ≡ isAsked s asked′ name i d → x ≡ isAsked s asked name i d
 asked-is s name i d e h = rw e h
 
--- The steps of an answer.
-pub with-gives : {A B : Type 0} {m : Answer A} (f : A → Answer B) {x : Answer B} {a : A} → gives a ≡ m → x ≡ f a → x ≡ with m f
-unfolding with
-with-gives f e h = h ∙ ap (λ (m : Answer _). with m f) e
-
-pub with-refuses : {A B : Type 0} {m : Answer A} (f : A → Answer B) {k : ℕ} → refuses k ≡ m → refuses k ≡ with m f
-unfolding with
-with-refuses f e = ap (λ (m : Answer _). with m f) e
-
-pub with-back : {A B : Type 0} (m : Answer A) (f : A → Answer B) {x : B} → gives x ≡ with m f → (a : A) × (gives a ≡ m) × (gives x ≡ f a)
-unfolding with
-with-back (gives a) f e = (a, refl, e)
-with-back (refuses k) f e = let z : _≡_ {A = ℕ} 0 1 = cc in absurd (omega arith)
-
-pub gives-same : {A : Type 0} {a b : A} → gives a ≡ gives b → a ≡ b
-gives-same e = cc
-
--- a parse's answer
-pub answer-got : {A : Type 0} {m : Parse A} {a : A} {n : ℕ} → got a n ≡ m → gives a ≡ answer m
-unfolding answer
-answer-got e = ap answer e
-
-pub answer-fails : {A : Type 0} {m : Parse A} {k : ℕ} → fails k ≡ m → refuses k ≡ answer m
-unfolding answer
-answer-fails e = ap answer e
-
-pub answer-back : {A : Type 0} (m : Parse A) {x : A} → gives x ≡ answer m → (n : ℕ) × (got x n ≡ m)
-unfolding answer
-answer-back (got a n) e = (n, (let u = gives-same e in ap (λ (y : _). got y n) u))
-answer-back (fails k) e = let z : _≡_ {A = ℕ} 0 1 = cc in absurd (omega arith)
-
--- As laws that `search` applies: a call's answer r, which says m, and of which it is known which answer v it is.
-pub with-by : {E A : Type 0} (says : E → Answer A) {B : Type 0} {m : Answer A} (f : A → Answer B) {x : Answer B} {r v : E} → says r ≡ m → r ≡ v → x ≡ with (says v) f → x ≡ with m f
-with-by says f h e k = k ∙ ap (λ (p : Answer _). with p f) (told says e h)
-
-pub answer-by :
-    {E A : Type 0} (says : E → Parse A) {B : Type 0} {m : Parse A} (f : A → Answer B) {x : Answer B} {r v : E} → says r ≡ m → r ≡ v → x ≡ with (answer (says v)) f →
-    x ≡ with (answer m) f
-answer-by says f h e k = k ∙ ap (λ (p : Parse _). with (answer p) f) (told says e h)
-
 pub with-present : {F A : Type 0} (says : F → Option A) {B : Type 0} (f : A → Answer B) {x : Answer B} {r v : F} → r ≡ v → x ≡ with (present (says v)) f → x ≡ with (present (says r)) f
 with-present says f e k = rw e k
 
 pub present-by : {F A : Type 0} (says : F → Option A) {x : Answer A} {r v : F} → r ≡ v → x ≡ present (says v) → x ≡ present (says r)
 present-by says e k = rw e k
-
-pub with-on : {A B : Type 0} (f : A → Answer B) {x : Answer B} {a : A} → x ≡ f a → x ≡ with (gives a) f
-with-on f k = with-gives f refl k
-
-pub with-stop : {A B : Type 0} (f : A → Answer B) {k : ℕ} → refuses k ≡ with (refuses k) f
-with-stop f = with-refuses f refl
-
-pub ruleset answers = (with-on, with-stop)
 
 -- a name among those from the k-th to the n-th of 64: the k-th, whose bytes are a, is it, or is not, or none is left
 module _ (s name : List ℕ) (ws : List Span) (k n : ℕ) where

@@ -2,7 +2,7 @@
 use Prim.Native.Nat.{ℕ, zero, suc}
 use mathlib.Core.List.{List, [], _∷_, _++_}
 use mathlib.Core.Bool.{Bool, false, not, _||_}
-use mathlib.Core.Option.{Option, none}
+use mathlib.Core.Option.{Option, none, some}
 use lib.Dec.{eqb}
 use Rattle.fields.specs.Parse.{Parse, got, then, check}
 use Rattle.fields.specs.Fields.{bytesOf, sameBytes}
@@ -13,9 +13,14 @@ use Rattle.header.specs.Header.{header}
 use Rattle.header.specs.declared.ArchiveHeader.{ArchiveHeader}
 use Rattle.descriptor.specs.Descriptor.{descriptor}
 use Rattle.descriptor.specs.declared.GridDescriptor.{GridDescriptor}
-use Rattle.archive.specs.Answer.{Answer, gives, answer, with, present}
+use Rattle.fields.specs.Answer.{Answer, gives, refuses, answer, with}
 use Rattle.archive.specs.declared.Asked.{Asked}
 use Rattle.archive.specs.declared.Asked.the-variants as A
+
+-- check 11: what is asked for is there
+unfoldable pub present : {A : Type 0} → Option A → Answer A
+present (some a) = gives a
+present none = refuses 11
 
 -- whether one of the names has these bytes
 unfoldable pub repeated : List ℕ → List ℕ → List Span → Bool

@@ -10,7 +10,7 @@ use Rattle.metadata.specs.Metadata.{latest}
 use Rattle.header.specs.declared.ArchiveHeader.{ArchiveHeader}
 use Rattle.descriptor.specs.Descriptor.{descriptor}
 use Rattle.descriptor.specs.declared.GridDescriptor.{GridDescriptor}
-use Rattle.archive.specs.Answer.{Answer, gives, refuses}
+use Rattle.fields.specs.Answer.{Answer, gives, refuses}
 use Rattle.archive.specs.Archive.{AskedFile, repeated, descriptors, isAsked}
 use Rattle.archive.specs.declared.Asked.{Asked}
 use Rattle.archive.specs.declared.FoundGrid.{FoundGrid}

@@ -2,7 +2,7 @@
 -- say of such a file follows from a few facts of its bytes, which `IsCloud` lists and which are then computed.
 use mathlib.Core.Path.{_≡_, refl, sym, ap, _∙_}
 use mathlib.Core.Bool.{Bool, true, false, not}
-use mathlib.Core.List.{List, [], _∷_, _++_, map}
+use mathlib.Core.List.{List, [], _∷_, _++_, map, flatMap}
 use Prim.Native.Nat.{ℕ, zero, suc, _+_, _*_, _≤_, _<_}
 use native.Mathlib.Omega.{arith}
 use lib.ListN.{length}
@@ -30,7 +30,7 @@ use Rattle.roots.specs.Roots.{treeHeadField, originField}
 use Rattle.roots.specs.declared.TreeHead.{TreeHead}
 use Rattle.tree.specs.Topology.{Node4, Node5, leafField, node4Field, childField, node5Field, rootField, rootsField}
 use Rattle.tree.specs.Blocks.{filled4, filled5, blocksField}
-use Rattle.tree.specs.Active.{Record, Piece, edgeOf, sideOf, joined, pieces4, pieces5, pieces, recordAt, recordsOf, allBlocks}
+use Rattle.tree.specs.Active.{Record, Piece, edgeOf, sideOf, pieces4, pieces5, pieces, recordAt, recordsOf, allBlocks}
 use Rattle.tree.specs.Inner.{kept}
 use Rattle.metadata.specs.Metadata.{latest}
 use Rattle.header.specs.Header.{header}
@@ -38,11 +38,11 @@ use Rattle.header.specs.declared.ArchiveHeader.{ArchiveHeader}
 use Rattle.descriptor.specs.declared.GridDescriptor.{GridDescriptor}
 use Rattle.descriptor.specs.declared.HalfEntry.the-variants as Half
 use Rattle.descriptor.specs.declared.TreeKind.the-variants as Kind
-use Rattle.archive.specs.Answer.{gives, present}
-use Rattle.archive.specs.Archive.{File, file, isAsked, fileAsked}
+use Rattle.fields.specs.Answer.{gives}
+use Rattle.archive.specs.Archive.{present, File, file, isAsked, fileAsked}
 use Rattle.archive.specs.declared.Asked.{Asked}
 use Rattle.archive.specs.declared.Asked.the-variants as A
-use Rattle.archive.proofs.Laws.{with-gives, answer-got}
+use Rattle.fields.proofs.Answers.{with-gives, answer-got}
 use Rattle.transform.specs.Transform.{transform}
 use Rattle.grid.specs.Grid.{Grid, widthOf, contentField, gridField, grid, activeOf, openGrid}
 use Rattle.leaves.specs.Leaves.{presentLeaf, fillLeaf, fillLeafNamed}
@@ -325,7 +325,7 @@ module _ {s : List ℕ} {o : GlobalCoord} {p5 : ℕ} {v5 : List ℕ} {p4 : ℕ} 
       ++ (listed s 1 (node4 .origin) (at4 v5 + 512 + 512 + 1) v4 ++ (listed s 2 o 8479 v5 ++ []))
 
   active : activeOf s found ≡ list
-  unfolding joined pieces pieces5 pieces4
+  unfolding flatMap pieces pieces5 pieces4
   active =
       rw (
         records-are s (at3 v5 v4 + 64) (at3 v5 v4 + 64) (at3 v5 v4 + 64 + 64 + 1) 0 (leaf .origin) actives3,
@@ -335,7 +335,7 @@ module _ {s : List ℕ} {o : GlobalCoord} {p5 : ℕ} {v5 : List ℕ} {p4 : ℕ} 
 
   -- opening it, by name and by number
   pub opens : Opens s list
-  unfolding openGrid isAsked allBlocks joined
+  unfolding openGrid isAsked allBlocks flatMap
   opens =
       let named = opened A.ByName (ascii "d") (f .front-is .2) in
       let numbered = opened (A.ByNumber 0) [] refl in
@@ -344,7 +344,7 @@ module _ {s : List ℕ} {o : GlobalCoord} {p5 : ℕ} {v5 : List ℕ} {p4 : ℕ} 
 
   -- its leaf, filled
   pub fills : gives (filled s (maskBit (part s (at3 v5 v4 + 64) 64) 0) (at3 v5 v4 + 64 + 64 + 1) 0 512) ≡ fillLeafNamed s (ascii "d") 0 512
-  unfolding fillLeaf presentLeaf allBlocks joined when isAsked
+  unfolding fillLeaf presentLeaf allBlocks flatMap when isAsked
   fills =
       let m = at3 v5 v4 + 64 in
       let v = values-from s m m (m + 64 + 1) (maskBit (part s m 64) 0) 512 0 (m + 64 + 1) (λ q a b. bit-part s m 64 q (omega arith)) (first s m m (m + 64 + 1)) in

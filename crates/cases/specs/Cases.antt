@@ -11,7 +11,7 @@ use lib.Ieee.{fin}
 use Rattle.fields.specs.Parse.{got}
 use Rattle.fields.specs.Fields.{ascii}
 use Rattle.fields.specs.declared.DVec3.{DVec3}
-use Rattle.archive.specs.Answer.{gives}
+use Rattle.fields.specs.Answer.{gives}
 use Rattle.archive.specs.declared.Asked.the-variants as A
 use Rattle.transform.specs.declared.Map.{Map}
 use Rattle.transform.specs.declared.Map.the-variants as M

@@ -1,7 +1,7 @@
 -- From its start a cursor hands out the tree's pieces, in the order of the active list, and then the end; where a block is refused, some of them
 -- and then that refusal.
 use mathlib.Core.Path.{_≡_, refl, sym, ap, subst, _∙_}
-use mathlib.Core.List.{List, [], _∷_, _++_, append-assoc, append-nil}
+use mathlib.Core.List.{List, [], _∷_, _++_, append-assoc, append-nil, flatMap}
 use mathlib.Core.Bool.{true}
 use mathlib.Core.Option.{some}
 use Prim.Native.Nat.{ℕ, zero, suc, _-_, _*_, _%_, _≤_}
@@ -22,8 +22,8 @@ use Rattle.nodes.proofs.Laws.{node-back}
 use Rattle.roots.specs.Roots.{originField}
 use Rattle.tree.specs.Topology.{Node5, leafField, node4Field, childField, node5Field, rootField, rootsField}
 use Rattle.tree.specs.Blocks.{Filled5, filled4, filled5, blocksField}
-use Rattle.tree.specs.Active.{Piece, joined, leafPiece, pieces4, pieces5, pieces, recordsOf, activeList}
-use Rattle.tree.proofs.Lists.{joined-map}
+use Rattle.tree.specs.Active.{Piece, leafPiece, pieces4, pieces5, pieces, recordsOf, activeList}
+use Rattle.tree.proofs.Lists.{flatMap-map}
 use Rattle.tree.proofs.Coverage.{Parsed}
 use Rattle.cursor.specs.Inner.{Rest, Stop, only, stop, prepend, piecesOf, after, Onward, forEach, betweenRoots, inNode5}
 use Rattle.cursor.specs.Inner.{enteredAt, beyond, nodePiece, childrenOf, leaving, leafRest, rest4, node4Rest, rest5, rootsRest, toCome}
@@ -100,8 +100,8 @@ child-at n s c at =
 -- A node whose children are given place by place: their pieces come first, and then the node.
 module _ {A B : Type 0} (f : ℕ → Onward → Onward) (g : ℕ → ℕ → Parse A) (fill : A → ℕ → Parse B) (own : B → List Piece)
     (one : (p : ℕ) (k : Onward) (at block : ℕ) → Given (g p at) (λ a. fill a block) own (f p k at block) k) where
-  each-given : (k : Onward) (ps : List ℕ) (at block : ℕ) → Given (many g ps at) (λ l. many fill l block) (joined own) (forEach f ps k at block) k
-  unfolding many forEach joined
+  each-given : (k : Onward) (ps : List ℕ) (at block : ℕ) → Given (many g ps at) (λ l. many fill l block) (flatMap own) (forEach f ps k at block) k
+  unfolding many forEach flatMap
   each-given k [] at block = got-always _ _ _ (hands-here _ _ _ _ _ refl)
   each-given k (p ∷ ps) at block =
       then-always _ _ _ λ a q d. then-always _ _ _ λ l q' e. got-always _ _ _
@@ -111,7 +111,7 @@ module _ {A B : Type 0} (f : ℕ → Onward → Onward) (g : ℕ → ℕ → Par
   node-given :
       (s : List ℕ) (c : Coding) (level m n at block : ℕ) (o : GlobalCoord) (behind : ℕ → ℕ → Cursor) (k : Onward) → n % 8 ≡ 0 → n ≤ 4096 → aligned m o ≡ true →
       {h : NodeHeader} {p : ℕ} → got h p ≡ nodeField s c n at → {l : List A} {q : ℕ} → got l q ≡ many g (ones (maskBit s (h .child)) (8 * n)) p →
-      Hands (many fill l block) (λ bs. joined own bs ++ nodePiece level o h ∷ []) (k q)
+      Hands (many fill l block) (λ bs. flatMap own bs ++ nodePiece level o h ∷ []) (k q)
       (childrenOf s m n f (enteredAt o at) (λ a b. leaving s c level n o at (behind a b) (k a b)) p block)
   unfolding childrenOf leaving
   node-given s c level m n at block o behind k words small multiple {h} {p} d {l} {q} e =
@@ -142,7 +142,7 @@ module _ (s : List ℕ) (c : Coding) where
       (hands-same _ _ _ _ (after-got _ d refl)
       (node-given (leafRest s c left five place at) (leafField s place) (blockField s c) (λ b. leafPiece b ∷ []) (leaf-given left five place at)
       s c 1 128 512 at block place (inNode5 left five) k refl (lit≤ tt) (child-aligned 32 128 o (index p) (lit≤ tt) (lit≤ tt) multiple) d e))
-      λ bs. ap (λ (ps : List Piece). ps ++ nodePiece 1 place h ∷ []) (joined-map leafPiece bs))
+      λ bs. ap (λ (ps : List Piece). ps ++ nodePiece 1 place h ∷ []) (flatMap-map leafPiece bs))
 
   node5-given :
       (left : ℕ) (o : GlobalCoord) → aligned 4096 o ≡ true → (k : Onward) (at block : ℕ) →
@@ -168,7 +168,7 @@ module _ (s : List ℕ) (c : Coding) where
   roots-given :
       (count : ℕ) (earlier : List GlobalCoord) (at block : ℕ) →
       Given (rootsField s c count earlier at) (λ ns. blocksField s c ns block) pieces (rootsRest s c count at block) (λ q r. only [])
-  unfolding many rootsField rootsRest pieces joined
+  unfolding many rootsField rootsRest pieces flatMap
   roots-given zero earlier at block = got-always _ _ _ (hands-here _ _ _ _ _ refl)
   roots-given (suc count) earlier at block =
       then-always _ _ _ λ n q d. then-always _ _ _ λ ns q' e. got-always _ _ _
@@ -197,5 +197,5 @@ module _ {s : List ℕ} {c : Coding} {roots : List Node5} {filled : List Filled5
   whole = blocks-there s c (t .count) [] (t .start) (t .block) (t .roots-read) (t .blocks-read)
 
   -- So the records of the pieces handed out, joined, are the active list.
-  pub whole-list : joined (recordsOf s c) (piecesOf (toCome s c fresh) .items) ≡ activeList s c filled
-  whole-list = ap (λ (r : Rest Piece). joined (recordsOf s c) (r .items)) whole
+  pub whole-list : flatMap (recordsOf s c) (piecesOf (toCome s c fresh) .items) ≡ activeList s c filled
+  whole-list = ap (λ (r : Rest Piece). flatMap (recordsOf s c) (r .items)) whole

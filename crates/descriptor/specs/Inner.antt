@@ -1,11 +1,8 @@
 -- Inner matter: only contracts of inner functions cite it, and nothing here has to be believed.
 use Prim.Native.Nat.{ℕ}
 use Rattle.fields.specs.Parse.{Parse, got, fails}
-use Rattle.descriptor.specs.declared.GridNames.{GridNames}
 use Rattle.descriptor.specs.declared.GridPositions.{GridPositions}
 use Rattle.descriptor.specs.declared.GridDescriptor.{GridDescriptor}
-use Rattle.descriptor.specs.declared.NamesField.{NamesField}
-use Rattle.descriptor.specs.declared.NamesField.the-variants.{Got as GotNames, Past as PastNames}
 use Rattle.descriptor.specs.declared.PositionField.{PositionField}
 use Rattle.descriptor.specs.declared.PositionField.the-variants.{Got as GotPosition, Refused as RefusedPosition}
 use Rattle.descriptor.specs.declared.PositionsField.{PositionsField}
@@ -14,10 +11,6 @@ use Rattle.descriptor.specs.declared.DescriptorField.{DescriptorField}
 use Rattle.descriptor.specs.declared.DescriptorField.the-variants.{Got as GotDescriptor, Refused as RefusedDescriptor}
 
 -- What each answer of the code says.
-abbrev pub saysNames : NamesField → Parse GridNames
-saysNames (GotNames v n) = got v n
-saysNames PastNames = fails 2
-
 abbrev pub saysPosition : PositionField → Parse ℕ
 saysPosition (GotPosition v n) = got v n
 saysPosition (RefusedPosition k) = fails k

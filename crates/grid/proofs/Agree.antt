@@ -7,12 +7,12 @@ use lib.ListN.{length}
 use Rattle.fields.specs.Parse.{Parse, got, then}
 use Rattle.fields.proofs.Laws.{then-got, check-passes, Always, then-always, got-always, check-always}
 use Rattle.fields.proofs.Agree.{Same, Reads, Each, Tells, part}
-use Rattle.archive.specs.Answer.{gives, present}
-use Rattle.archive.specs.Archive.{AskedFile, fileAsked}
+use Rattle.fields.specs.Answer.{gives}
+use Rattle.archive.specs.Archive.{present, AskedFile, fileAsked}
 use Rattle.header.specs.declared.ArchiveHeader.{ArchiveHeader}
 use Rattle.descriptor.specs.declared.GridDescriptor.{GridDescriptor}
 use Rattle.archive.specs.declared.Asked.{Asked}
-use Rattle.archive.proofs.Laws.{with-gives, with-back, answer-got, answer-back}
+use Rattle.fields.proofs.Answers.{with-gives, with-back, answer-got, answer-back}
 use Rattle.archive.proofs.Agree.{SameOpening, opened-again}
 use Rattle.transform.specs.Transform.{transform}
 use Rattle.transform.proofs.Agree.{transform-reads}

@@ -8,13 +8,13 @@ use Prim.Native.Nat.{ℕ, _≤_, _<_}
 use native.Mathlib.Omega.{arith}
 use lib.ListN.{length, getD}
 use Rattle.fields.proofs.Laws.{Always, then-always, check-always, got-always}
-use Rattle.archive.specs.Answer.{gives}
+use Rattle.fields.specs.Answer.{gives}
 use Rattle.archive.specs.declared.Asked.{Asked}
 use Rattle.header.specs.declared.ArchiveHeader.{ArchiveHeader}
 use Rattle.descriptor.specs.declared.GridDescriptor.{GridDescriptor}
 use Rattle.descriptor.specs.declared.HalfEntry.{HalfEntry}
 use Rattle.descriptor.specs.declared.HalfEntry.the-variants as Half
-use Rattle.archive.proofs.Laws.{with-back, answer-back}
+use Rattle.fields.proofs.Answers.{with-back, answer-back}
 use Rattle.coordinates.specs.declared.GlobalCoord.{GlobalCoord}
 use Rattle.half.specs.Inner.{isWidth}
 use Rattle.roots.proofs.Laws.{head-end, head-inside}

@@ -10,10 +10,10 @@ use lib.ListN.{length}
 use Rattle.fields.specs.Parse.{Parse, got, fails, then}
 use Rattle.fields.proofs.Laws.{check-passes, through, then-got, then-fails, made-at}
 use Rattle.half.specs.Inner.{isWidth}
-use Rattle.archive.specs.Answer.{Answer, gives, refuses, answer, with, present}
-use Rattle.archive.specs.Archive.{fileAsked}
+use Rattle.fields.specs.Answer.{Answer, gives, refuses, answer, with}
+use Rattle.archive.specs.Archive.{present, fileAsked}
 use Rattle.archive.specs.declared.Asked.{Asked}
-use Rattle.archive.proofs.Laws.{with-gives, with-refuses, answer-fails}
+use Rattle.fields.proofs.Answers.{with-gives, with-refuses, answer-fails}
 use Rattle.header.specs.declared.ArchiveHeader.{ArchiveHeader}
 use Rattle.descriptor.specs.declared.GridDescriptor.{GridDescriptor}
 use Rattle.values.specs.Values.{isPacked}

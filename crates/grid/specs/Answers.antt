@@ -1,5 +1,5 @@
 -- What the answer of opening a grid says.
-use Rattle.archive.specs.Answer.{Answer, gives, refuses}
+use Rattle.fields.specs.Answer.{Answer, gives, refuses}
 use Rattle.grid.specs.declared.OpenedGrid.{OpenedGrid}
 use Rattle.grid.specs.declared.GridAnswer.{GridAnswer}
 use Rattle.grid.specs.declared.GridAnswer.the-variants.{Grid as GridIs, Refused as GridRefused}

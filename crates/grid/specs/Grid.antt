@@ -5,8 +5,8 @@ use mathlib.Core.Bool.{Bool, true, false, not}
 use lib.Dec.{eqb}
 use lib.ListN.{length}
 use Rattle.fields.specs.Parse.{Parse, got, then, check}
-use Rattle.archive.specs.Answer.{Answer, gives, answer, with, present}
-use Rattle.archive.specs.Archive.{fileAsked}
+use Rattle.fields.specs.Answer.{Answer, gives, answer, with}
+use Rattle.archive.specs.Archive.{present, fileAsked}
 use Rattle.header.specs.declared.ArchiveHeader.{ArchiveHeader}
 use Rattle.descriptor.specs.declared.GridDescriptor.{GridDescriptor}
 use Rattle.descriptor.specs.declared.HalfEntry.{HalfEntry}

@@ -5,7 +5,7 @@ use mathlib.Core.Bool.{not}
 use lib.Dec.{eqb}
 use lib.ListN.{length}
 use Rattle.fields.specs.Parse.{Parse, got, then, check}
-use Rattle.archive.specs.Answer.{Answer, gives, refuses, with}
+use Rattle.fields.specs.Answer.{Answer, gives, refuses, with}
 use Rattle.header.specs.declared.ArchiveHeader.{ArchiveHeader}
 use Rattle.descriptor.specs.declared.GridDescriptor.{GridDescriptor}
 use Rattle.archive.specs.declared.Asked.{Asked}

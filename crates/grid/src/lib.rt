@@ -2,7 +2,7 @@
 ghost use mathlib.Core.Path.{_≡_};
 ghost use Prim.Native.Nat.{_≤_};
 ghost use Rattle.fields.specs.Parse.{then, got};
-ghost use Rattle.archive.specs.Answer.{answer};
+ghost use Rattle.fields.specs.Answer.{answer};
 ghost use Rattle.half.specs.Inner.{isWidth};
 ghost use Rattle.grid.specs.Grid.{isFloatTree, widthOf, codingOf, openGrid, openGridNamed, openGridNumbered};
 ghost use Rattle.grid.specs.Inner.{contentWith, readTree, readContent, readGrid, look, saysContent, openedBy};

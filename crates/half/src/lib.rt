@@ -3,7 +3,7 @@ ghost use mathlib.Core.Path.{_≡_};
 ghost use Prim.Native.Nat.{_+_, _≤_, _<_, _^_};
 ghost use lib.ListN.{length};
 ghost use Rattle.fields.specs.Parse.{field};
-ghost use Rattle.fields.specs.Inner.{saysU32};
+ghost use Rattle.fields.specs.Says.{saysU32};
 ghost use Rattle.half.specs.Half.{exponent, storedValue, widened};
 ghost use Rattle.half.specs.Inner.{isTable, isTimes, isWidth};
 use fields::U32Field;

@@ -7,9 +7,9 @@ use lib.Dec.{eqb}
 use lib.ListN.{getElem?}
 use Rattle.fields.specs.Parse.{when}
 use Rattle.fields.proofs.Agree.{Each}
-use Rattle.archive.specs.Answer.{gives, refuses}
+use Rattle.fields.specs.Answer.{gives, refuses}
 use Rattle.archive.specs.declared.Asked.{Asked}
-use Rattle.archive.proofs.Laws.{with-gives, with-back, gives-same}
+use Rattle.fields.proofs.Answers.{with-gives, with-back, gives-same}
 use Rattle.values.proofs.Agree.{values-same}
 use Rattle.nodes.specs.declared.Block.{Block}
 use Rattle.nodes.proofs.Agree.{SameBlock}

@@ -1,6 +1,6 @@
 -- A run of leaves is the single leaves, one after the other.
 use mathlib.Core.Path.{_≡_, refl, sym, ap, _∙_}
-use mathlib.Core.List.{List, [], _∷_}
+use mathlib.Core.List.{List, [], _∷_, flatMap}
 use mathlib.Core.Bool.{Bool, true, false, _&&_}
 use mathlib.Core.Option.{some}
 use Prim.Native.Nat.{ℕ, zero, suc, _+_, _-_, _*_, _/_, _%_, _≤_, _<_}
@@ -10,14 +10,14 @@ use lib.ListN.{length, take, drop, getElem?, length-drop}
 use lib.Seq.{take-at, drop-at, drop-drop}
 use borrow.Author.Tests.{leb-true}
 use Rattle.fields.specs.Parse.{when}
-use Rattle.archive.specs.Answer.{gives, refuses}
+use Rattle.fields.specs.Answer.{gives, refuses}
 use Rattle.archive.specs.declared.Asked.{Asked}
-use Rattle.archive.proofs.Laws.{with-back, with-gives, gives-same}
+use Rattle.fields.proofs.Answers.{with-back, with-gives, gives-same}
 use Rattle.values.specs.Values.{leafValues, valuesFrom}
 use Rattle.values.specs.declared.Coding.{Coding}
 use Rattle.values.specs.declared.Values.{Values}
 use Rattle.nodes.specs.declared.Block.{Block}
-use Rattle.tree.specs.Active.{joined, allBlocks}
+use Rattle.tree.specs.Active.{allBlocks}
 use Rattle.coordinates.proofs.Axis.{and-both}
 use Rattle.grid.specs.Grid.{grid}
 use Rattle.leaves.specs.Leaves.{presentLeaf, fillLeaf, fillLeaves}
@@ -39,8 +39,8 @@ module _ (s : List ℕ) (c : Coding) where
   values b = leafValues s c (b .mask) (b .values)
 
   one-of :
-      (l : List Block) (i n : ℕ) → i < n → n ≤ length l → (b : Block) × (some b ≡ getElem? l i) × (take 512 (drop (512 * i) (joined values (take n l))) ≡ values b)
-  unfolding joined
+      (l : List Block) (i n : ℕ) → i < n → n ≤ length l → (b : Block) × (some b ≡ getElem? l i) × (take 512 (drop (512 * i) (flatMap values (take n l))) ≡ values b)
+  unfolding flatMap
   one-of [] i n h k = absurd (omega arith)
   one-of (b ∷ l) zero zero h k = absurd (omega arith)
   one-of (b ∷ l) zero (suc n) h k = (b, refl, take-at (values b) _ 512 (values-length s c _ _ _ 0 512))
@@ -48,7 +48,7 @@ module _ (s : List ℕ) (c : Coding) where
   one-of (b ∷ l) (suc i) (suc n) h k =
       let rest = one-of l i n (omega arith) (omega arith) in
       let e : 512 * suc i ≡ 512 + 512 * i = omega arith in
-      let d = drop-at (values b) (joined values (take n l)) 512 (values-length s c _ _ _ 0 512) in
+      let d = drop-at (values b) (flatMap values (take n l)) 512 (values-length s c _ _ _ 0 512) in
       (rest .0, rest .1, rw (e, ← drop-drop) (ap (λ (x : List ℕ). take 512 (drop (512 * i) x)) d ∙ rest .2))
 
 -- Section 6: each 512 slots of a run hold what the single fill of that leaf gives.

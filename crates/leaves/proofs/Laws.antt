@@ -1,13 +1,13 @@
 -- Laws of a run of leaves that is being filled, by which the functions' proofs go.
 use mathlib.Core.Path.{_≡_, refl, sym, ap, _∙_}
-use mathlib.Core.List.{List, [], _∷_, _++_, append-assoc, append-nil}
+use mathlib.Core.List.{List, [], _∷_, _++_, append-assoc, append-nil, flatMap}
 use Prim.Native.Nat.{ℕ, suc, _+_, _-_, _/_, _≤_, _<_}
 use native.Mathlib.Omega.{arith}
 use lib.ListN.{length, take, drop, length-append}
 use lib.Seq.{take-all, take-at, drop-at, length-take-le}
 use Rattle.values.specs.Values.{leafValues}
 use Rattle.values.specs.declared.Coding.{Coding}
-use Rattle.tree.specs.Active.{Piece, joined}
+use Rattle.tree.specs.Active.{Piece}
 use Rattle.leaves.specs.Inner.{valuesOf, Enough}
 
 -- A run that is being filled: the slots before `at` have the values of the leaves that are passed, and with those of the leaves l to come, but for the
@@ -33,7 +33,7 @@ module _ {s : List ℕ} {c : Coding} {l : List Piece} {first : ℕ} {slots : Lis
     leaf-fits m = omega (arith, f .enough .whole)
 
     pub full : length slots ≤ at → slots ≡ all
-    unfolding joined
+    unfolding flatMap
     full h =
         let z : length slots - at ≡ 0 = omega arith in
         let e : at ≡ length slots = omega (arith, f .inside) in
@@ -49,13 +49,13 @@ module _ {s : List ℕ} {c : Coding} {l : List Piece} {first : ℕ} {slots : Lis
           record {
             inside = f .inside;
             enough = record { whole = f .enough .whole; there = omega (arith, f .enough .there, k, n) };
-            so-far = ap (λ (x : List Piece). take at slots ++ joined (λ q. leafValues s c (q .value) (q .values)) (take ((length slots - at) / 512) x)) (sym d) ∙ f .so-far;
+            so-far = ap (λ (x : List Piece). take at slots ++ flatMap (λ q. leafValues s c (q .value) (q .values)) (take ((length slots - at) / 512) x)) (sym d) ∙ f .so-far;
           }
 
       pub filled :
           at < length slots → (next : List ℕ) → length next ≡ length slots → take (at + 512) next ≡ take at slots ++ leafValues s c (q .value) (q .values) →
           Filling s c m 0 (at + 512) next all
-      unfolding joined
+      unfolding flatMap
       filled l next n x =
           let h = here .enough in
           let a : (length slots - at) / 512 ≡ suc ((length next - (at + 512)) / 512) = omega (arith, h .whole) in

@@ -1,6 +1,6 @@
 -- The leaves that a cursor hands out from the start on are the tree's; a fill is a run of these.
 use mathlib.Core.Path.{_≡_, refl, sym, ap, subst, _∙_}
-use mathlib.Core.List.{List, [], _∷_, _++_, map, map-append, append-nil}
+use mathlib.Core.List.{List, [], _∷_, _++_, map, map-append, append-nil, flatMap}
 use mathlib.Core.Bool.{Bool, true, false, _&&_}
 use mathlib.Core.Option.{Option, none, some}
 use Prim.Native.Nat.{ℕ, zero, suc, _-_, _/_, _%_, _≤_}
@@ -10,16 +10,16 @@ use lib.ListN.{length, take, drop, getElem?}
 use borrow.Author.Tests.{le-leb, lt-leb, leb-true, eqb-true}
 use Rattle.fields.specs.Parse.{when}
 use Rattle.fields.proofs.Laws.{when-true, when-false}
-use Rattle.archive.specs.Answer.{Answer, gives, refuses, with}
+use Rattle.fields.specs.Answer.{Answer, gives, refuses, with}
 use Rattle.archive.specs.declared.Asked.{Asked}
-use Rattle.archive.proofs.Laws.{with-gives, with-back, gives-same}
+use Rattle.fields.proofs.Answers.{with-gives, with-back, gives-same}
 use Rattle.coordinates.proofs.Axis.{and-both}
 use Rattle.half.specs.Inner.{isWidth}
 use Rattle.values.specs.Values.{leafValues}
 use Rattle.values.specs.declared.Coding.{Coding}
 use Rattle.nodes.specs.declared.Block.{Block}
 use Rattle.tree.specs.Blocks.{Filled4, Filled5}
-use Rattle.tree.specs.Active.{Piece, joined, leafPiece, piece4, piece5, pieces4, pieces5, pieces, allBlocks}
+use Rattle.tree.specs.Active.{Piece, leafPiece, piece4, piece5, pieces4, pieces5, pieces, allBlocks}
 use Rattle.cursor.specs.Inner.{Rest, Stop, toCome}
 use Rattle.cursor.proofs.Whole.{fresh, whole}
 use Rattle.grid.specs.Grid.{Grid, grid, startOf, openedOf, openGrid}
@@ -54,10 +54,10 @@ unfolding when
 of-leaves [] = refl
 of-leaves (b ∷ bs) = ap (λ (x : List Piece). leafPiece b ∷ x) (of-leaves bs)
 
-of-joined : {A : Type 0} (f : A → List Piece) (g : A → List Block) → ((a : A) → leavesOf (f a) ≡ map leafPiece (g a)) → (l : List A) → leavesOf (joined f l) ≡ map leafPiece (joined g l)
-unfolding joined
-of-joined f g h [] = refl
-of-joined f g h (a ∷ l) = of-append (f a) (joined f l) ∙ (λ i. h a i ++ of-joined f g h l i) ∙ sym (map-append leafPiece (g a) (joined g l))
+of-flatMap : {A : Type 0} (f : A → List Piece) (g : A → List Block) → ((a : A) → leavesOf (f a) ≡ map leafPiece (g a)) → (l : List A) → leavesOf (flatMap f l) ≡ map leafPiece (flatMap g l)
+unfolding flatMap
+of-flatMap f g h [] = refl
+of-flatMap f g h (a ∷ l) = of-append (f a) (flatMap f l) ∙ (λ i. h a i ++ of-flatMap f g h l i) ∙ sym (map-append leafPiece (g a) (flatMap g l))
 
 -- a node among them is none
 with-node : (l : List Piece) (q : Piece) (bs : List Block) → eqb (q .level) 0 ≡ false → leavesOf l ≡ map leafPiece bs → leavesOf (l ++ q ∷ []) ≡ map leafPiece bs
@@ -67,14 +67,14 @@ with-node l q bs n e = of-append l (q ∷ []) ∙ rw (n, append-nil, e)
 of-tree : (filled : List Filled5) → leavesOf (pieces filled) ≡ map leafPiece (allBlocks filled)
 unfolding pieces pieces4 pieces5 allBlocks
 of-tree filled =
-    of-joined pieces5 (λ f. joined (λ g. g .blocks) (f .nodes)) (λ (f : Filled5). with-node (joined pieces4 (f .nodes)) (piece5 (f .node)) (joined (λ g. g .blocks) (f .nodes)) refl
-    (of-joined pieces4 (λ g. g .blocks) (λ (g : Filled4). with-node (map leafPiece (g .blocks)) (piece4 (g .node)) (g .blocks) refl (of-leaves (g .blocks))) (f .nodes))) filled
+    of-flatMap pieces5 (λ f. flatMap (λ g. g .blocks) (f .nodes)) (λ (f : Filled5). with-node (flatMap pieces4 (f .nodes)) (piece5 (f .node)) (flatMap (λ g. g .blocks) (f .nodes)) refl
+    (of-flatMap pieces4 (λ g. g .blocks) (λ (g : Filled4). with-node (map leafPiece (g .blocks)) (piece4 (g .node)) (g .blocks) refl (of-leaves (g .blocks))) (f .nodes))) filled
 
 -- their values, and that these lie in the file
 of-values :
     (s : List ℕ) (c : Coding) (bs : List Block) (first n : ℕ) →
-    valuesOf s c (map leafPiece bs) first n ≡ joined (λ b. leafValues s c (b .mask) (b .values)) (take n (drop first bs))
-unfolding joined
+    valuesOf s c (map leafPiece bs) first n ≡ flatMap (λ b. leafValues s c (b .mask) (b .values)) (take n (drop first bs))
+unfolding flatMap
 of-values s c [] zero zero = refl
 of-values s c [] zero (suc n) = refl
 of-values s c [] (suc k) zero = refl
@@ -96,8 +96,8 @@ of-grid s g h =
 -- A single leaf is a run of one.
 one-run :
     (f : Block → List ℕ) (bs : List Block) (k : ℕ) →
-    with (presentLeaf (getElem? bs k)) (λ b. gives (f b)) ≡ when (leb 1 (length bs - k)) (gives (joined f (take 1 (drop k bs)))) (refuses 21)
-unfolding presentLeaf with when joined
+    with (presentLeaf (getElem? bs k)) (λ b. gives (f b)) ≡ when (leb 1 (length bs - k)) (gives (flatMap f (take 1 (drop k bs)))) (refuses 21)
+unfolding presentLeaf with when flatMap
 one-run f [] k = rw (lt-leb 1 (0 - k) (omega arith))
 one-run f (b ∷ bs) zero = rw (le-leb 1 (suc (length bs) - 0) (omega arith), append-nil)
 one-run f (b ∷ bs) (suc k) =

@@ -2,7 +2,7 @@
 use Prim.Native.Nat.{ℕ}
 use mathlib.Core.List.{List}
 use mathlib.Core.Path.{_≡_}
-use Rattle.archive.specs.Answer.{Answer, gives, refuses}
+use Rattle.fields.specs.Answer.{Answer, gives, refuses}
 use Rattle.leaves.specs.declared.FillAnswer.{FillAnswer}
 use Rattle.leaves.specs.declared.FillAnswer.the-variants.{Filled as IsFilled, Refused as FillRefused}
 

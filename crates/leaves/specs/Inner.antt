@@ -1,14 +1,14 @@
 -- Inner matter: only contracts of inner functions cite it, and nothing here has to be believed.
 use Prim.Native.Nat.{ℕ, _-_, _/_, _%_, _≤_}
 use mathlib.Core.Path.{_≡_}
-use mathlib.Core.List.{List, [], _∷_}
+use mathlib.Core.List.{List, [], _∷_, flatMap}
 use mathlib.Core.Bool.{Bool}
 use lib.Dec.{eqb}
 use lib.ListN.{length, take, drop}
 use Rattle.fields.specs.Parse.{when}
 use Rattle.values.specs.Values.{leafValues}
 use Rattle.values.specs.declared.Coding.{Coding}
-use Rattle.tree.specs.Active.{Piece, joined}
+use Rattle.tree.specs.Active.{Piece}
 use Rattle.cursor.specs.Inner.{Stop, betweenRoots, toCome}
 use Rattle.cursor.specs.declared.Cursor.{Cursor}
 use Rattle.place.specs.declared.Start.{Start}
@@ -31,7 +31,7 @@ leavesFrom s c x = leavesAmong (toCome s c x .items)
 
 -- the values of n of these leaves, but for the first ones
 abbrev pub valuesOf : List ℕ → Coding → List Piece → ℕ → ℕ → List ℕ
-valuesOf s c l first n = joined (λ q. leafValues s c (q .value) (q .values)) (take n (drop first l))
+valuesOf s c l first n = flatMap (λ q. leafValues s c (q .value) (q .values)) (take n (drop first l))
 
 -- there are leaves enough for so many slots
 pub record Enough (l : List Piece) (first slots : ℕ) : Type 0 where

@@ -1,18 +1,18 @@
 -- Section 6: the values of a leaf, and of a run of leaves that are filled with one opening of the grid.
 use Prim.Native.Nat.{ℕ, _-_, _/_, _%_}
-use mathlib.Core.List.{List, []}
+use mathlib.Core.List.{List, [], flatMap}
 use mathlib.Core.Bool.{_&&_}
 use mathlib.Core.Option.{Option, none, some}
 use lib.Dec.{eqb, leb}
 use lib.ListN.{length, take, drop, getElem?}
 use Rattle.fields.specs.Parse.{when}
-use Rattle.archive.specs.Answer.{Answer, gives, refuses, with}
+use Rattle.fields.specs.Answer.{Answer, gives, refuses, with}
 use Rattle.archive.specs.declared.Asked.{Asked}
 use Rattle.archive.specs.declared.Asked.the-variants as A
 use Rattle.values.specs.Values.{leafValues}
 use Rattle.nodes.specs.declared.Block.{Block}
 use Rattle.tree.specs.Blocks.{Filled5}
-use Rattle.tree.specs.Active.{joined, allBlocks}
+use Rattle.tree.specs.Active.{allBlocks}
 use Rattle.grid.specs.Grid.{Grid, grid}
 
 -- a leaf by its number from 0, in the order of the topology
@@ -39,7 +39,7 @@ fillLeafNumbered s n k slots = fillLeaf s (A.ByNumber n) [] k slots
 
 -- the values of n leaves from a number on, one after the other
 abbrev pub runValues : List ℕ → Grid → ℕ → ℕ → List ℕ
-runValues s g first n = joined (λ b. leafValues s (g .coding) (b .mask) (b .values)) (take n (drop first (allBlocks (g .filled))))
+runValues s g first n = flatMap (λ b. leafValues s (g .coding) (b .mask) (b .values)) (take n (drop first (allBlocks (g .filled))))
 
 -- check 21: the slots are for whole leaves, and these are all there
 unfoldable pub fillLeaves : List ℕ → Asked → List ℕ → ℕ → ℕ → Answer (List ℕ)

@@ -3,7 +3,7 @@ use mathlib.Core.Path.{_≡_, refl, sym, ap, _∙_, subst}
 use mathlib.Core.Logic.{_↔_, _⊎_, inl, inr, ⊎-elim}
 use mathlib.Core.Bool.{Bool, true, false, not, _&&_, cond, Bool·beq, true≢false, false≢true, and-eq-true-iff}
 use mathlib.Core.Option.{none, some}
-use mathlib.Core.List.{List, [], _∷_, _++_, List·Memᴰ, List·Memᴰ·head, List·Memᴰ·tail, List·Memᴰ·cases-cons, List·Memᴰ·not-nil}
+use mathlib.Core.List.{List, [], _∷_, _++_, List·Memᴰ, List·Memᴰ·head, List·Memᴰ·tail, List·Memᴰ·cases-cons, List·Memᴰ·not-nil, head?}
 use Prim.Native.Nat.{ℕ, zero, suc, _+_, _-_, _≤_, _<_}
 use native.Mathlib.Nat.{add-zero, zero-add, add-suc, suc-add, not-suc-le-zero, le-of-suc-le-suc, sub-zero, eq-or-lt-of-le, lt-of-not-le}
 use native.Mathlib.Numerals.{add-one}
@@ -12,7 +12,7 @@ use lib.ListN.{length, getD, length-append}
 use lib.Seq.{getD-append-seam}
 use borrow.Author.Tests.{not-true, not-false}
 use Rattle.masks.specs.Masks.{onesFrom, consIf, ones, countBelow, isNil, overlap, agree}
-use Rattle.masks.specs.Inner.{zerosBelow, nextOne, firstOf}
+use Rattle.masks.specs.Inner.{zerosBelow, nextOne}
 
 consIf-append : (b : Bool) (p : ℕ) (l m : List ℕ) → consIf b p (l ++ m) ≡ consIf b p l ++ m
 consIf-append true p l m = refl
@@ -218,11 +218,11 @@ module _ (f : ℕ → Bool) where
       rw (s, sub-zero) (getD-append-seam (ones f q) q (onesFrom f (suc q) (0 + n - suc q)) d)
 
 -- The next one.
-first-none : (l : List ℕ) → firstOf l ≡ none → l ≡ []
+first-none : (l : List ℕ) → head? l ≡ none → l ≡ []
 first-none [] e = refl
 first-none (p ∷ l) e = let z : _≡_ {A = ℕ} 0 1 = cc in absurd (omega arith)
 
-first-some : (l : List ℕ) (q : ℕ) → firstOf l ≡ some q → (0 < length l) × (getD l 0 0 ≡ q)
+first-some : (l : List ℕ) (q : ℕ) → head? l ≡ some q → (0 < length l) × (getD l 0 0 ≡ q)
 first-some [] q e = let z : _≡_ {A = ℕ} 0 1 = cc in absurd (omega arith)
 first-some (p ∷ l) q e = (omega arith, cc)
 
@@ -232,7 +232,7 @@ length-nil (p ∷ l) e = absurd (omega arith)
 
 module _ (f : ℕ → Bool) (n p : ℕ) where
   pub next-none : (nextOne f n p ≡ none) ↔ (onesFrom f p (n - p) ≡ [])
-  next-none = (first-none _, λ e. ap firstOf e)
+  next-none = (first-none _, λ e. ap head? e)
 
   next-numbered : (q : ℕ) → nextOne f n p ≡ some q → Numbered f p (n - p) 0 q
   next-numbered q e =
@@ -246,7 +246,7 @@ module _ (f : ℕ → Bool) (n p : ℕ) where
       rw (ones-split f p (n - p) q (a .0, a .1, a .2), length-nil (onesFrom f p (q - p)) (a .3), e)
 
   pub next-some : (q : ℕ) → (nextOne f n p ≡ some q) ↔ (onesFrom f p (n - p) ≡ q ∷ onesFrom f (suc q) (n - suc q))
-  next-some q = (λ e. next-split q (next-numbered q e), λ e. ap firstOf e)
+  next-some q = (λ e. next-split q (next-numbered q e), λ e. ap head? e)
 
   -- it is a one at or after p, with zeros alone before it
   pub next-from : (q : ℕ) → nextOne f n p ≡ some q → p ≤ q

@@ -3,7 +3,7 @@ use Prim.Native.Nat.{ℕ, _+_, _-_, _%_, _^_, _≤_, _<_}
 use mathlib.Core.Path.{_≡_}
 use mathlib.Core.Bool.{Bool, not}
 use mathlib.Core.Option.{Option, none, some}
-use mathlib.Core.List.{List, [], _∷_}
+use mathlib.Core.List.{List, head?}
 use lib.ListN.{length}
 use Rattle.masks.specs.Masks.{digit, onesFrom, countBelow}
 use Rattle.masks.specs.declared.NextOne.{NextOne}
@@ -20,12 +20,8 @@ abbrev pub zerosBelow : (ℕ → Bool) → ℕ → ℕ
 zerosBelow f p = countBelow (λ q. not (f q)) p
 
 -- the next one at or after p in a mask of n places, if there is one
-abbrev pub firstOf : List ℕ → Option ℕ
-firstOf [] = none
-firstOf (p ∷ l) = some p
-
 abbrev pub nextOne : (ℕ → Bool) → ℕ → ℕ → Option ℕ
-nextOne f n p = firstOf (onesFrom f p (n - p))
+nextOne f n p = head? (onesFrom f p (n - p))
 
 -- what the code's answer says
 abbrev pub saysNext : NextOne → Option ℕ

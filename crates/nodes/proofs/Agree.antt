@@ -9,7 +9,7 @@ use Rattle.masks.proofs.Agree.{overlap-same, agree-same}
 use Rattle.values.specs.declared.Coding.{Coding}
 use Rattle.values.specs.declared.Stored.the-variants.{Every, Childless}
 use Rattle.values.proofs.Agree.{SameValues, values-tells}
-use Rattle.nodes.specs.Nodes.{nodeField, buffersField, oldField, blockField}
+use Rattle.nodes.specs.Nodes.{nodeField, leafBuffersField, oldField, blockField}
 use Rattle.nodes.specs.declared.NodeHeader.{NodeHeader}
 use Rattle.nodes.specs.declared.Leaf.{Leaf}
 use Rattle.nodes.specs.declared.Block.{Block}
@@ -32,7 +32,7 @@ node-tells {s} {t} n c =
     (then-tells (values-tells c Childless n _ _ (keep f x) y) λ v r g z. got-tells (SameNode s t c n) z)
 
 pub old-reads : {s t : List ℕ} {lo at : ℕ} (version : ℕ) (origin : GlobalCoord) → Reads s t lo at (oldField s version origin at) (oldField t version origin at)
-unfolding oldField buffersField
+unfolding oldField leafBuffersField
 old-reads version origin = search reads depth 7
 
 pub block-tells :

@@ -26,8 +26,8 @@ nodeField s c n at =
     got (record { child = child .start; value = value .start; values = values }) r)
 
 -- What a block has before version 222 only: its leaf's origin, and a count of buffers, which is 1; check 20 on each.
-unfoldable pub buffersField : List ℕ → ℕ → Parse Unit
-buffersField s at =
+unfoldable pub leafBuffersField : List ℕ → ℕ → Parse Unit
+leafBuffersField s at =
     then (u8Field s at) λ buffers p.
     check (eqb buffers 1) 20
     (got tt p)
@@ -37,7 +37,7 @@ oldField s version origin at =
     when (ltb version 222)
     (then (iVec3Field s at) λ v p.
     check (sameCoord (originOf v) origin) 20
-    (buffersField s p))
+    (leafBuffersField s p))
     (got tt at)
 
 -- A leaf's block: its value mask once more, which has to be the topology's (check 20); what stands there before version 222; the stored values,

@@ -4,7 +4,7 @@ ghost use Prim.Native.Nat.{_≤_, _%_};
 ghost use Rattle.half.specs.Inner.{isWidth};
 ghost use Rattle.masks.specs.Masks.{maskBit, countBelow};
 ghost use Rattle.masks.specs.Inner.{IsMask};
-ghost use Rattle.nodes.specs.Nodes.{nodeField, buffersField, oldField, blockField};
+ghost use Rattle.nodes.specs.Nodes.{nodeField, leafBuffersField, oldField, blockField};
 ghost use Rattle.nodes.specs.Inner.{blockHead, endOf, saysNode, saysEnd, saysBlock};
 use coordinates::GlobalCoord;
 use fields::IVec3Field;
@@ -82,7 +82,7 @@ pub fn read_node_header(s: &[u8], c: Coding, n: usize, at: usize) -> NodeField
 
 // The count of buffers that a block has under 222.
 fn read_buffers(s: &[u8], at: usize) -> EndField
-    ensures { λ r. ⌜ saysEnd r ≡ buffersField (now (s .entry)) at ⌝ }
+    ensures { λ r. ⌜ saysEnd r ≡ leafBuffersField (now (s .entry)) at ⌝ }
 {
     match fields::read_u8(s, at) {
         U8Field::Past => EndField::Refused(2),

@@ -13,9 +13,9 @@ use Rattle.transform.specs.declared.MapKind.the-variants as K
 use Rattle.transform.specs.declared.Scale.{Scale}
 use Rattle.transform.specs.declared.Map.{Map}
 use Rattle.transform.specs.declared.Map.the-variants as M
-use Rattle.archive.specs.Answer.{gives}
+use Rattle.fields.specs.Answer.{gives}
 use Rattle.archive.specs.declared.Asked.{Asked}
-use Rattle.archive.proofs.Laws.{with-back, answer-back, gives-same}
+use Rattle.fields.proofs.Answers.{with-back, answer-back, gives-same}
 use Rattle.header.specs.declared.ArchiveHeader.{ArchiveHeader}
 use Rattle.descriptor.specs.declared.GridDescriptor.{GridDescriptor}
 use Rattle.grid.specs.Grid.{contentField, gridField, grid, openGrid}

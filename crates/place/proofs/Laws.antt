@@ -20,7 +20,7 @@ use Rattle.slots.specs.declared.Inside.{Inside}
 use Rattle.bits.specs.declared.Run.{Run}
 use Rattle.slots.proofs.Laws.{laid-append, laid-same, Same, same}
 use Rattle.half.specs.Inner.{isWidth}
-use Rattle.place.specs.Inner.{Course, stopped, join, listingFrom, course, handOn, entered, nextStand, Walks}
+use Rattle.place.specs.Inner.{Course, stopped, join, listingFrom, course, handOn, entered, nextStand, HandedOn}
 use Rattle.place.specs.declared.Stand.{Stand}
 use Rattle.place.proofs.Listing.{first-listed}
 
@@ -92,10 +92,10 @@ module _ (s : List ℕ) (c : Coding) (limit : ℕ) (x : Cursor) (w : Inside) {i 
       go y v true e = absurd (none-some e)
       go y v false e = refl
 
-  pub stops-so : none ≡ nextStand (r .whole) (r .filled) limit (listingFrom s c x) → Walks A t₀ t′ (record { cursor = x; inside = r .inside; filled = r .filled })
+  pub stops-so : none ≡ nextStand (r .whole) (r .filled) limit (listingFrom s c x) → HandedOn A t₀ t′ (record { cursor = x; inside = r .inside; filled = r .filled })
   stops-so e = go (rw (stopping _ e) at g)
     where
-      go : Coming i (stopped own x) t A t₀ → Walks A t₀ t′ (record { cursor = x; inside = r .inside; filled = r .filled })
+      go : Coming i (stopped own x) t A t₀ → HandedOn A t₀ t′ (record { cursor = x; inside = r .inside; filled = r .filled })
       go k = record { cursor = k .cursor; inside = f .inside ∙ k .inside; filled = f .filled ∙ k .filled; slots = f .slots ∙ k .slots }
 
   -- or goes on in the next piece
@@ -140,5 +140,5 @@ module _ (s : List ℕ) (c : Coding) (limit : ℕ) (x : Cursor) (w : Inside) {i 
           tested false j e = absurd (none-some (sym e))
 
 -- a walk keeps the slots that there are
-pub walks-same : {A : Course} {t t′ : Slots} {r : Stand} → Walks A t t′ r → Same t′ t
+pub walks-same : {A : Course} {t t′ : Slots} {r : Stand} → HandedOn A t t′ r → Same t′ t
 walks-same {A} {t} f = rw (f .slots) (laid-same t 0 (A .records) (same t))

@@ -1,6 +1,6 @@
 -- From a grid's start on, what a walk hands out is the grid's active list.
 use mathlib.Core.Path.{_≡_, refl, sym, ap, _∙_}
-use mathlib.Core.List.{List, [], _∷_, _++_, append-nil}
+use mathlib.Core.List.{List, [], _∷_, _++_, append-nil, flatMap}
 use mathlib.Core.Bool.{Bool, true, false}
 use Prim.Native.Nat.{ℕ, _+_, _-_, _≤_}
 use native.Mathlib.Omega.{arith}
@@ -13,7 +13,7 @@ use Rattle.half.specs.Inner.{isWidth}
 use Rattle.values.specs.declared.Coding.{Coding}
 use Rattle.tree.specs.Topology.{Node5}
 use Rattle.tree.specs.Blocks.{Filled5}
-use Rattle.tree.specs.Active.{Record, joined, recordsOf, activeList}
+use Rattle.tree.specs.Active.{Record, recordsOf, activeList}
 use Rattle.tree.proofs.Coverage.{Parsed}
 use Rattle.bits.specs.Inner.{Handed}
 use Rattle.records.specs.Inner.{handPiece}
@@ -35,7 +35,7 @@ module _ (s : List ℕ) (c : Coding) (wide : isWidth (c .width)) where
   course-list :
       (ts : List Stop) (x : Cursor) (want : ℕ) (h : Handed) (us : List Record) → ts ≡ listingFrom s c x → h .records ≡ take want us → h .whole ≡ true →
       course s c want h x ts .records ≡ take want (us ++ listed s c ts)
-  unfolding course when joined
+  unfolding course when flatMap
   course-list [] x want h us e d w = rw append-nil d
   course-list (t ∷ ts) x want h us e d w =
       let f = first-listed s c wide x e in

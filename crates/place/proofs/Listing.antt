@@ -1,6 +1,6 @@
 -- The pieces that list a record: the first one that a cursor still hands out, and what all of them list.
 use mathlib.Core.Path.{_≡_, refl, sym, ap, _∙_}
-use mathlib.Core.List.{List, [], _∷_, _++_, map}
+use mathlib.Core.List.{List, [], _∷_, _++_, map, flatMap}
 use mathlib.Core.Bool.{Bool, true, false, _&&_}
 use mathlib.Core.Option.{Option, none, some}
 use Prim.Native.Nat.{ℕ, _-_, _*_, _≤_, _<_}
@@ -15,7 +15,7 @@ use Rattle.masks.specs.Masks.{maskBit, ones, countBelow}
 use Rattle.masks.specs.Inner.{IsMask, nextOne}
 use Rattle.masks.proofs.Laws.{ones-none, count-strict, next-lt, next-one, next-none-count}
 use Rattle.values.specs.declared.Coding.{Coding}
-use Rattle.tree.specs.Active.{Record, Piece, edgeOf, joined, recordAt, recordsOf}
+use Rattle.tree.specs.Active.{Record, Piece, edgeOf, recordAt, recordsOf}
 use Rattle.tree.specs.Inner.{recordCount, leafCount}
 use Rattle.tree.proofs.Counting.{total}
 use Rattle.cursor.specs.Inner.{Rest, Stop, stop, toCome, HeldPiece}
@@ -49,10 +49,10 @@ module _ (s : List ℕ) (c : Coding) where
 
   -- the records of the pieces at these stops: an empty piece adds none
   abbrev pub listed : List Stop → List Record
-  listed ts = joined (recordsOf s c) (map (λ t. t .piece) ts)
+  listed ts = flatMap (recordsOf s c) (map (λ t. t .piece) ts)
 
   pub all-listed : (ts : List Stop) → listed (listing s ts) ≡ listed ts
-  unfolding listing joined when
+  unfolding listing flatMap when
   all-listed [] = refl
   all-listed (t ∷ ts) = go (all-listed ts) (eqb (recordCount s (t .piece)) 0) refl
     where

@@ -117,7 +117,7 @@ saysStand (StandsAt v) = some v
 saysStand StandsNowhere = none
 
 -- what the code's answer says: the slots hold what is handed out, from the first one on
-pub record Walks (a : Course) (before after : Slots) (r : Stand) : Type 0 where
+pub record HandedOn (a : Course) (before after : Slots) (r : Stand) : Type 0 where
   pub cursor : r .cursor ≡ a .cursor
   pub inside : r .inside ≡ a .inside
   pub filled : r .filled ≡ length (a .records)

@@ -8,7 +8,7 @@ ghost use Rattle.slots.specs.Slots.{slotsOf};
 ghost use Rattle.slots.specs.Inner.{Room};
 ghost use Rattle.skip.specs.Inner.{skipFrom};
 ghost use Rattle.place.specs.Inner.{saysBehind, behindOf, EndsAt, Steps};
-ghost use Rattle.place.specs.Inner.{storedNumber, entered, nowhere, freshPlace, moved, listingFrom, saysListed, nextStand, saysStand, handOn, Walks};
+ghost use Rattle.place.specs.Inner.{storedNumber, entered, nowhere, freshPlace, moved, listingFrom, saysListed, nextStand, saysStand, handOn, HandedOn};
 use bits::Run;
 use coordinates::GlobalCoord;
 use coordinates::Index;
@@ -228,7 +228,7 @@ fn hand_pieces(
     value: &mut [u32],
 ) -> Stand
     requires { ⌜ (c .width ≡ 2 → isTable (now table)) × isWidth (c .width) × Room limit (slotsOf (now x) (now y) (now z) (now level) (now value)) ⌝ }
-    ensures { λ r. ⌜ Walks (handOn (now (s .entry)) c limit cursor inside) (slotsOf (now (x .entry)) (now (y .entry)) (now (z .entry)) (now (level .entry)) (now (value .entry))) (slotsOf (now (x .exit)) (now (y .exit)) (now (z .exit)) (now (level .exit)) (now (value .exit))) r ⌝ }
+    ensures { λ r. ⌜ HandedOn (handOn (now (s .entry)) c limit cursor inside) (slotsOf (now (x .entry)) (now (y .entry)) (now (z .entry)) (now (level .entry)) (now (value .entry))) (slotsOf (now (x .exit)) (now (y .exit)) (now (z .exit)) (now (level .exit)) (now (value .exit))) r ⌝ }
 {
     let mut at = Stand {
         cursor,
@@ -269,7 +269,7 @@ pub fn hand_on(
     value: &mut [u32],
 ) -> Stand
     requires { ⌜ isWidth (c .width) × Room limit (slotsOf (now x) (now y) (now z) (now level) (now value)) ⌝ }
-    ensures { λ r. ⌜ Walks (handOn (now (s .entry)) c limit cursor inside) (slotsOf (now (x .entry)) (now (y .entry)) (now (z .entry)) (now (level .entry)) (now (value .entry))) (slotsOf (now (x .exit)) (now (y .exit)) (now (z .exit)) (now (level .exit)) (now (value .exit))) r ⌝ }
+    ensures { λ r. ⌜ HandedOn (handOn (now (s .entry)) c limit cursor inside) (slotsOf (now (x .entry)) (now (y .entry)) (now (z .entry)) (now (level .entry)) (now (value .entry))) (slotsOf (now (x .exit)) (now (y .exit)) (now (z .exit)) (now (level .exit)) (now (value .exit))) r ⌝ }
 {
     if c.width == 2 {
         let table = half::subnormals();

@@ -47,7 +47,7 @@ use denote.Triple.Spec.{Meets, tripleOf}
 use denote.Triple.Walked.{says, Stays, stay-ref, walkOf, goes-ref, ends-at, walked, walk-meets}
 use denote.Exit.{yes}
 use Rattle.fields.specs.Parse.{Parse}
-use Rattle.reader.specs.Inner.{readerAt, behind, reading}
+use Rattle.reader.specs.Reader.{readerAt, nextAt, reading}
 use Rattle.reader.specs.declared.Reader.{Reader}
 use Rattle.reader.proofs.Reader as T
 use Rattle.reader.proofs.Reader.Laws as T′
@@ -101,9 +101,9 @@ module _ {M : Type 1} (𝓤 : URA M) (H : Heap 𝓤) (A : Atoms 𝓤) (W : Given
 abbrev pub Told : {X : Type 0} → (List ℕ → ℕ → Parse X) → Reader → Parse X → Reader → Type 0
 Told {X} reads h p h′ = _≡_ {A = Parse X × Reader} (p, h′) (reading reads h)
 
-pub told : {X : Type 0} (reads : List ℕ → ℕ → Parse X) (h : Reader) (p : Parse X) (n : ℕ) → p ≡ reads (now (h .src)) (h .at) → n ≡ behind p (h .at)
+pub told : {X : Type 0} (reads : List ℕ → ℕ → Parse X) (h : Reader) (p : Parse X) (n : ℕ) → p ≡ reads (now (h .src)) (h .at) → n ≡ nextAt p (h .at)
     → Told reads h p (readerAt (h .src) n)
-told {X} reads h p n e e′ = λ i. (e i, readerAt (h .src) ((e′ ∙ ap (λ (x : Parse X). behind x (h .at)) e) i))
+told {X} reads h p n e e′ = λ i. (e i, readerAt (h .src) ((e′ ∙ ap (λ (x : Parse X). nextAt x (h .at)) e) i))
 
 module _ (K : Kind) where
   abbrev pub F : RattleType
@@ -143,7 +143,7 @@ module _ (K : Kind) where
     core-clauses κs a = record { ghost = Unit {0}; requires = λ _. emp 𝓤; ensures = λ _ f e. fact 𝓤 (K .tells f ≡ K .reads (now (a .0)) (a .1 .0)) }
 
     abbrev pub after-clauses : Clauses 𝓤 after-ended
-    after-clauses κs a = record { ghost = Unit {0}; requires = λ _. emp 𝓤; ensures = λ _ n e. fact 𝓤 (n ≡ behind (K .tells (a .0)) (a .1 .0)) }
+    after-clauses κs a = record { ghost = Unit {0}; requires = λ _. emp 𝓤; ensures = λ _ n e. fact 𝓤 (n ≡ nextAt (K .tells (a .0)) (a .1 .0)) }
 
     abbrev pub clauses : Clauses 𝓤 ended
     clauses κs a = record { ghost = Unit {0}; requires = λ _. emp 𝓤; ensures = λ _ f e. fact 𝓤 (Told (K .reads) (now (a .0)) (K .tells f) (now (e .0))) }
@@ -168,8 +168,8 @@ module _ (K : Kind) where
         qed W [] ∵ nothing ! $ owned ! usize (Is usize) (uint-makes 𝓤 H A W w64) at _ (refl, fits) $ fjoin ! $
         owned ! F (Is F) (EL.makes (K .type) (K .plains) 𝓤 H A) f _ is $ fjoin ! $ nothing ! $ join ! $ frame ! $ done !
 
-    pub after-said : (n : ℕ) → ent 𝓤 (ensured 𝓤 H A after-ended (after-clauses 𝓤) tt (f, (at, tt)) tt n) (fact 𝓤 (n ≡ behind (K .tells f) at))
-    after-said n = exE 𝓤 _ (λ ws. snd∗ 𝓤 (sem 𝓤 H A (lasts after-ended tt (f, (at, tt)) ws)) (fact 𝓤 (n ≡ behind (K .tells f) at)))
+    pub after-said : (n : ℕ) → ent 𝓤 (ensured 𝓤 H A after-ended (after-clauses 𝓤) tt (f, (at, tt)) tt n) (fact 𝓤 (n ≡ nextAt (K .tells f) at))
+    after-said n = exE 𝓤 _ (λ ws. snd∗ 𝓤 (sem 𝓤 H A (lasts after-ended tt (f, (at, tt)) ws)) (fact 𝓤 (n ≡ nextAt (K .tells f) at)))
 
   -- the MIR: `Code.function` of each read is this at its kind, by computation
   abbrev τ : Ty
@@ -269,7 +269,7 @@ module _ (K : Kind) where
           calls-at ! fm (After 𝓤 H A) known-after (to-after 𝓤 H A W f (h .at) u)
           (and-then ! (load ! (from ! (stop !)) (look ! 15 refl)) (and-then ! (load ! (from ! (stop !)) (look ! 9 refl)) (no-more !))) (λ w.
           use1 W (later (some (λ (n : ℕ). (‵ ftrue ⊛ ‵ (usize .own n (w ∷ []))) ⊛ raw (ensured 𝓤 H A after-ended (after-clauses 𝓤) tt (f, (h .at, tt)) tt n)))) (id⊢ 𝓤 _) $ await ! tt $ pick ! (λ n.
-          split ! $ move ! (1 ∷ []) $ use1 W (raw (fact 𝓤 (n ≡ behind (K .tells f) (h .at)))) (after-said 𝓤 H A W f (h .at) n) $ heard ! (n ≡ behind (K .tells f) (h .at)) (λ e′.
+          split ! $ move ! (1 ∷ []) $ use1 W (raw (fact 𝓤 (n ≡ nextAt (K .tells f) (h .at)))) (after-said 𝓤 H A W f (h .at) n) $ heard ! (n ≡ nextAt (K .tells f) (h .at)) (λ e′.
           split ! $ drop ! $ peeks ! usize (Is usize) (shows 𝓤 H A usize) n (w ∷ []) (λ is′.
           land ! (from ! (stop !)) (store ! 11 refl (uint-lawful 𝓤 H A W w64 .typed n _ is′ .0)) $ rewrite ! 11 (λ (z : Val). ‵ (fat fullShare (tyInt w64) l₄ 0 z)) (ap only (is′ .0)) refl $ drop ! $
           assigns ! (of-opd ! (load ! (from ! (stop !)) (look ! 10 refl))) (from ! (hop ! (look ! 16 refl) (fld ! refl (stop !))))

@@ -1,7 +1,7 @@
 -- The kinds of fields that a reader reads.
 use Prim.Native.Nat.{ℕ}
 use Rattle.fields.specs.Fields.{u32Field, iVec3Field, dVec3Field, stringField}
-use Rattle.fields.specs.Inner.{saysU32, saysIVec3, saysDVec3, saysSpan}
+use Rattle.fields.specs.Says.{saysU32, saysIVec3, saysDVec3, saysSpan}
 use Rattle.fields.specs.declared.IVec3.{IVec3}
 use Rattle.fields.specs.declared.DVec3.{DVec3}
 use Rattle.fields.specs.declared.Span.{Span}

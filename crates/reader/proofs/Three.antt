@@ -40,7 +40,8 @@ use denote.Triple.Spec.{Meets, tripleOf}
 use denote.Triple.Walked.{Stays, stay-none, stay-none-slice, onExit, walkOf, goes-none, goes-none-slice, ends-at, walked, walk-meets}
 use denote.Exit.{yes}
 use Rattle.fields.specs.Parse.{Parse, got, fails, then}
-use Rattle.reader.specs.Inner.{readerAt, behind, reading, inRow}
+use Rattle.reader.specs.Reader.{readerAt, nextAt, reading}
+use Rattle.reader.specs.Inner.{inRow}
 use Rattle.reader.specs.declared.Reader.{Reader}
 use Rattle.reader.proofs.Reader as T
 use Rattle.reader.proofs.Reader.Laws as T′
@@ -66,13 +67,13 @@ module _ {X Y : Type 0} (joined : X → X → X → Y) (reads : List ℕ → ℕ
   abbrev threeField : List ℕ → ℕ → Parse Y
   threeField s at = then (reads s at) (λ x p. then (reads s p) (λ y q. then (reads s q) (λ z n. got (joined x y z) n)))
 
-  second : (f : ℕ → Parse X) (x : X) (p : ℕ) (b : Parse X) → inRow joined (got x p) b (f (behind b p)) ≡ then b (λ y q. then (f q) (λ z n. got (joined x y z) n))
+  second : (f : ℕ → Parse X) (x : X) (p : ℕ) (b : Parse X) → inRow joined (got x p) b (f (nextAt b p)) ≡ then b (λ y q. then (f q) (λ z n. got (joined x y z) n))
   unfolding inRow then
   second f x p (got y q) = refl
   second f x p (fails k) = refl
 
   first : (s : List ℕ) (at : ℕ) (a : Parse X)
-      → inRow joined a (reads s (behind a at)) (reads s (behind (reads s (behind a at)) (behind a at)))
+      → inRow joined a (reads s (nextAt a at)) (reads s (nextAt (reads s (nextAt a at)) (nextAt a at)))
       ≡ then a (λ x p. then (reads s p) (λ y q. then (reads s q) (λ z n. got (joined x y z) n)))
   unfolding inRow then
   first s at (got x p) = second (reads s) x p (reads s p)

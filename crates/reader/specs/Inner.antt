@@ -1,28 +1,7 @@
 -- Inner matter: only contracts of inner functions cite it, and nothing here has to be believed.
-use Prim.Native.Nat.{ℕ}
-use mathlib.Core.List.{List}
-use denote.Ref.{RefT, now}
-use Rattle.fields.specs.Parse.{Parse, got, fails, then}
-use Rattle.fields.specs.Fields.{u32Field}
+use Rattle.fields.specs.Parse.{Parse, got, then}
 use Rattle.fields.specs.declared.Span.{Span}
 use Rattle.descriptor.specs.declared.GridNames.{GridNames}
-use Rattle.reader.specs.declared.Reader.{Reader}
-use Rattle.reader.specs.declared.Versions.{Versions}
-use Rattle.reader.specs.declared.VersionsField.{VersionsField}
-use Rattle.reader.specs.declared.VersionsField.the-variants.{Got as GotVersions, Past as PastVersions}
-
--- a reader of these bytes at this position
-abbrev pub readerAt : RefT (List ℕ) → ℕ → Reader
-readerAt s at = record { src = s; at = at }
-
--- where a reader that stood at `at` stands after a field: behind it, or where it stood if the field is refused
-abbrev pub behind : {A : Type 0} → Parse A → ℕ → ℕ
-behind (got a n) at = n
-behind (fails k) at = at
-
--- a field read by a reader: what stands at its position, and the reader over the same bytes, moved on
-abbrev pub reading : {A : Type 0} → (List ℕ → ℕ → Parse A) → Reader → Parse A × Reader
-reading field r = (field (now (r .src)) (r .at), readerAt (r .src) (behind (field (now (r .src)) (r .at)) (r .at)))
 
 -- three fields read in a row and joined; the first that is refused counts
 unfoldable pub inRow : {A B : Type 0} → (A → A → A → B) → Parse A → Parse A → Parse A → Parse B
@@ -32,22 +11,6 @@ inRow joined a b c =
     then c λ z n.
     got (joined x y z) n
 
--- a descriptor's names, and the header's numbers, from three values
+-- a descriptor's names from three values
 abbrev pub names : Span → Span → Span → GridNames
 names name type parent = record { name = name; «grid_type» = type; «instance_parent» = parent }
-
-abbrev pub versions : ℕ → ℕ → ℕ → Versions
-versions version major minor = record { «file_version» = version; «library_version_major» = major; «library_version_minor» = minor }
-
--- section 2: what stands behind the header's magic, the version first, then two numbers of the library; only check 2 is made
-unfoldable pub versionsField : List ℕ → ℕ → Parse Versions
-versionsField s at =
-    then (u32Field s at) λ version p.
-    then (u32Field s p) λ major q.
-    then (u32Field s q) λ minor n.
-    got (versions version major minor) n
-
--- what the code's answer says
-abbrev pub saysVersions : VersionsField → Parse Versions
-saysVersions (GotVersions v n) = got v n
-saysVersions PastVersions = fails 2

@@ -2,10 +2,11 @@
 // here a field is read where the reader stands, and the reader is moved on.
 ghost use mathlib.Core.Path.{_≡_};
 ghost use Rattle.fields.specs.Fields.{u32Field, iVec3Field, dVec3Field, bytesField, stringField};
-ghost use Rattle.fields.specs.Inner.{saysU32, saysIVec3, saysDVec3, saysSpan};
+ghost use Rattle.fields.specs.Says.{saysU32, saysIVec3, saysDVec3, saysSpan};
 ghost use Rattle.descriptor.specs.Descriptor.{namesField};
-ghost use Rattle.descriptor.specs.Inner.{saysNames};
-ghost use Rattle.reader.specs.Inner.{readerAt, behind, reading, inRow, names, versions, versionsField, saysVersions};
+ghost use Rattle.descriptor.specs.Says.{saysNames};
+ghost use Rattle.reader.specs.Reader.{readerAt, nextAt, reading, versions, versionsField, saysVersions};
+ghost use Rattle.reader.specs.Inner.{inRow, names};
 use descriptor::GridNames;
 use descriptor::NamesField;
 use fields::DVec3Field;
@@ -40,7 +41,7 @@ pub fn new<'a>(src: &'a [u8]) -> Reader<'a>
 
 // Where a reader that stood at `at` stands after a field. The borrow checker covers these, so that the functions over a reader need no branch.
 fn after_u32(f: U32Field, at: usize) -> usize
-    ensures { λ r. ⌜ r ≡ behind (saysU32 f) at ⌝ }
+    ensures { λ r. ⌜ r ≡ nextAt (saysU32 f) at ⌝ }
 {
     match f {
         U32Field::Got(_, n) => n,
@@ -49,7 +50,7 @@ fn after_u32(f: U32Field, at: usize) -> usize
 }
 
 fn after_span(f: SpanField, at: usize) -> usize
-    ensures { λ r. ⌜ r ≡ behind (saysSpan f) at ⌝ }
+    ensures { λ r. ⌜ r ≡ nextAt (saysSpan f) at ⌝ }
 {
     match f {
         SpanField::Got(_, n) => n,
@@ -58,7 +59,7 @@ fn after_span(f: SpanField, at: usize) -> usize
 }
 
 fn after_i_vec3(f: IVec3Field, at: usize) -> usize
-    ensures { λ r. ⌜ r ≡ behind (saysIVec3 f) at ⌝ }
+    ensures { λ r. ⌜ r ≡ nextAt (saysIVec3 f) at ⌝ }
 {
     match f {
         IVec3Field::Got(_, n) => n,
@@ -67,7 +68,7 @@ fn after_i_vec3(f: IVec3Field, at: usize) -> usize
 }
 
 fn after_d_vec3(f: DVec3Field, at: usize) -> usize
-    ensures { λ r. ⌜ r ≡ behind (saysDVec3 f) at ⌝ }
+    ensures { λ r. ⌜ r ≡ nextAt (saysDVec3 f) at ⌝ }
 {
     match f {
         DVec3Field::Got(_, n) => n,

@@ -1,14 +1,14 @@
 -- Demand 3 of calls over rows: in columns they are calls over five slices.
 use mathlib.Core.Path.{_≡_, refl, sym, ap, _∙_}
-use mathlib.Core.List.{List, [], _∷_, map, map-append, cons-ne-nil}
+use mathlib.Core.List.{List, [], _∷_, map, map-append, cons-ne-nil, flatMap}
 use Prim.Native.Nat.{ℕ, zero, suc, _+_, _≤_}
 use native.Mathlib.Omega.{arith}
 use lib.IntN.{pos}
 use lib.ListN.{length, take, drop, length-map, List·getD-map}
 use lib.Seq.{drop-cons}
-use Rattle.archive.specs.Answer.{gives}
+use Rattle.fields.specs.Answer.{gives}
 use Rattle.archive.specs.declared.Asked.{Asked}
-use Rattle.tree.specs.Active.{Record, joined}
+use Rattle.tree.specs.Active.{Record}
 use Rattle.slots.specs.Slots.{Slots, laidFrom}
 use Rattle.slots.proofs.Laws.{same, laid-same}
 use Rattle.grid.specs.Grid.{openGrid}
@@ -54,15 +54,15 @@ call-rows s p a b (WalkRefused k) q = refl
 
 -- what the calls hand out, as rows
 abbrev InRows : List RowCall → Type 0
-InRows cs = joined rowOut cs ≡ map rowOf (joined handedOut (map inColumns cs))
+InRows cs = flatMap rowOut cs ≡ map rowOf (flatMap handedOut (map inColumns cs))
 
 none-left : (cs : List RowCall) → map inColumns cs ≡ [] → InRows cs
-unfolding joined
+unfolding flatMap
 none-left [] e = refl
 none-left (c ∷ cs) e = absurd (cons-ne-nil _ _ e)
 
 calls-rows : (s : List ℕ) (p : Place) (cs : List RowCall) → Calls s p (map inColumns cs) → InRows cs
-unfolding joined
+unfolding flatMap
 calls-rows s p [] q = refl
 calls-rows s p (c ∷ cs) q = rw (map-append, call-rows s p (c .before) (c .after) (c .answer) (q .0), go (c .answer) (λ p. calls-rows s p cs) (q .1))
   where

@@ -8,9 +8,9 @@ use lib.ListN.{length, take, drop, length-take, length-drop, length-append}
 use lib.Seq.{take-add, drop-drop}
 use borrow.Author.Tests.{ne-eqb}
 use Rattle.fields.specs.Parse.{when}
-use Rattle.archive.specs.Answer.{gives}
+use Rattle.fields.specs.Answer.{gives}
 use Rattle.archive.specs.declared.Asked.{Asked}
-use Rattle.archive.proofs.Laws.{gives-same}
+use Rattle.fields.proofs.Answers.{gives-same}
 use Rattle.tree.specs.Active.{Record}
 use Rattle.slots.specs.Slots.{Slots, slotCount, laidFrom}
 use Rattle.grid.specs.Grid.{Grid, grid, activeOf, placeAfter}

@@ -6,7 +6,7 @@ use mathlib.Core.List.{List, [], map}
 use lib.Dec.{eqb}
 use lib.ListN.{length, take}
 use Rattle.fields.specs.Parse.{when}
-use Rattle.archive.specs.Answer.{gives, refuses}
+use Rattle.fields.specs.Answer.{gives, refuses}
 use Rattle.archive.specs.declared.Asked.{Asked}
 use Rattle.tree.specs.Active.{Record}
 use Rattle.grid.specs.Grid.{Grid, grid, activeOf, placeAfter}

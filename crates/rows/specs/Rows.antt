@@ -1,10 +1,10 @@
 -- Section 7: a row of record slots, as a slice of structs; and demand 3 of calls over rows. The theorem is `demand3-rows` in proofs/Demand3.antt.
 use Prim.Native.Nat.{ℕ, _+_, min}
 use mathlib.Core.Path.{_≡_}
-use mathlib.Core.List.{List, [], _∷_, map}
+use mathlib.Core.List.{List, [], _∷_, map, flatMap}
 use lib.ListN.{length, take}
 use Rattle.archive.specs.declared.Asked.{Asked}
-use Rattle.tree.specs.Active.{Record, joined}
+use Rattle.tree.specs.Active.{Record}
 use Rattle.slots.specs.Slots.{Slots, slotsOf}
 use Rattle.grid.specs.Grid.{activeOf}
 use Rattle.grid.specs.declared.OpenedGrid.{OpenedGrid}
@@ -46,4 +46,4 @@ rowsLent (c ∷ cs) = length (c .before) + rowsLent cs
 -- Demand 3 of calls over rows: of the same calls over five slices; and the rows handed out, joined in call order, are the first of the active list.
 pub record Demand3Rows (s : List ℕ) (asked : Asked) (name : List ℕ) (o : OpenedGrid) (cs : List RowCall) : Type 0 where
   pub demand : Demand3 s asked name o (map inColumns cs)
-  pub rows : joined rowOut cs ≡ map rowOf (take (min (o .«active_count») (rowsLent cs)) (activeOf s (demand .grid)))
+  pub rows : flatMap rowOut cs ≡ map rowOf (take (min (o .«active_count») (rowsLent cs)) (activeOf s (demand .grid)))

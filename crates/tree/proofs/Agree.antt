@@ -1,7 +1,7 @@
 -- What the parses of a tree and of its blocks read: two files that are the same there give the same.
 use mathlib.Core.Path.{_≡_, refl, ap, ap₂, _∙_}
 use mathlib.Core.Bool.{Bool, true, false}
-use mathlib.Core.List.{List, [], _∷_, map}
+use mathlib.Core.List.{List, [], _∷_, map, flatMap}
 use Prim.Native.Nat.{ℕ, zero, suc, _+_, _*_, _≤_, _<_}
 use native.Mathlib.Omega.{arith}
 use lib.Dec.{lit≤}
@@ -19,12 +19,11 @@ use Rattle.values.proofs.Agree.{SameValues, place-same}
 use Rattle.half.specs.Inner.{isWidth}
 use Rattle.nodes.proofs.Agree.{SameNode, SameLeaf, SameBlock, node-tells, block-tells}
 use Rattle.roots.proofs.Agree.{origin-reads}
-use Rattle.tree.specs.Active.{Record, sideOf, edgeOf, joined, Piece, leafPiece, piece4, piece5, pieces4, pieces5, pieces}
+use Rattle.tree.specs.Active.{Record, sideOf, edgeOf, Piece, leafPiece, piece4, piece5, pieces4, pieces5, pieces}
 use Rattle.tree.specs.Active.{recordAt, recordsOf, activeList, allBlocks, Spot, placeIn, spotAt, below, spot4, spot5, spot}
-use Rattle.tree.specs.Topology.{Node4, Node5, leafField, node4Field, childField, node5Field}
-use Rattle.tree.specs.Topology.{rootField, rootsField}
+use Rattle.tree.specs.Topology.{Node4, Node5, leafField, node4Field, childField, node5Field, rootField, rootsField}
 use Rattle.tree.specs.Blocks.{Filled4, Filled5, filled4, filled5, blocksField}
-use Rattle.tree.proofs.Lists.{each-map, each-joined, map-same, joined-same}
+use Rattle.tree.proofs.Lists.{each-map, each-flatMap, map-same, flatMap-same}
 use Rattle.tree.proofs.Cover.{side-positive, edge-positive}
 
 -- a 4-node and its leaves' masks are the same in both files, a 5-node and all below it
@@ -155,16 +154,16 @@ module _ (s t : List ℕ) (c : Coding) where
   pieces5-same : (f : Filled5) → SameFilled5 s t c f → Each (SamePiece s t c) (pieces5 f)
   unfolding pieces5
   pieces5-same f h =
-      each-append (SamePiece s t c) (joined pieces4 (f .nodes)) (piece5 (f .node) ∷ [])
-      (each-joined (SameFilled4 s t c) (SamePiece s t c) pieces4 (f .nodes) (h .1) pieces4-same) ((lit≤ tt, h .0 .0), tt)
+      each-append (SamePiece s t c) (flatMap pieces4 (f .nodes)) (piece5 (f .node) ∷ [])
+      (each-flatMap (SameFilled4 s t c) (SamePiece s t c) pieces4 (f .nodes) (h .1) pieces4-same) ((lit≤ tt, h .0 .0), tt)
 
   pub pieces-same : (filled : List Filled5) → Each (SameFilled5 s t c) filled → Each (SamePiece s t c) (pieces filled)
   unfolding pieces
-  pieces-same filled h = each-joined (SameFilled5 s t c) (SamePiece s t c) pieces5 filled h pieces5-same
+  pieces-same filled h = each-flatMap (SameFilled5 s t c) (SamePiece s t c) pieces5 filled h pieces5-same
 
   module _ (w : isWidth (c .width)) where
     pub active-same : (filled : List Filled5) → Each (SameFilled5 s t c) filled → activeList s c filled ≡ activeList t c filled
-    active-same filled h = joined-same (SamePiece s t c) _ _ (pieces filled) (pieces-same filled h) (records-same s t c w)
+    active-same filled h = flatMap-same (SamePiece s t c) _ _ (pieces filled) (pieces-same filled h) (records-same s t c w)
 
     module _ (v : GlobalCoord) where
       spot4-same : (f : Filled4) → SameFilled4 s t c f → spot4 s c v f ≡ spot4 t c v f
@@ -187,4 +186,4 @@ module _ (s t : List ℕ) (c : Coding) where
 -- A leaf by its number.
 pub blocks-same : (s t : List ℕ) (c : Coding) (filled : List Filled5) → Each (SameFilled5 s t c) filled → Each (SameBlock s t c) (allBlocks filled)
 unfolding allBlocks
-blocks-same s t c filled h = each-joined (SameFilled5 s t c) (SameBlock s t c) _ filled h λ f k. each-joined (SameFilled4 s t c) (SameBlock s t c) _ (f .nodes) (k .1) λ g m. m .1
+blocks-same s t c filled h = each-flatMap (SameFilled5 s t c) (SameBlock s t c) _ filled h λ f k. each-flatMap (SameFilled4 s t c) (SameBlock s t c) _ (f .nodes) (k .1) λ g m. m .1

@@ -1,6 +1,6 @@
 -- The active list against the descent: the records that cover a voxel are the one that the descent names, or none.
 use mathlib.Core.Path.{_≡_, refl, sym, ap, _∙_}
-use mathlib.Core.List.{List, [], _∷_, _++_, map, append-nil, List·Memᴰ, List·Memᴰ·head, List·Memᴰ·tail}
+use mathlib.Core.List.{List, [], _∷_, _++_, map, append-nil, List·Memᴰ, List·Memᴰ·head, List·Memᴰ·tail, flatMap}
 use mathlib.Core.Bool.{Bool, true, false, _||_, true≢false, false≢true}
 use Prim.Native.Nat.{ℕ, zero, suc, _+_, _-_, _*_, _<_, _≤_}
 use native.Mathlib.Nat.{sub-zero}
@@ -23,29 +23,29 @@ use Rattle.roots.specs.Roots.{isAmong}
 use Rattle.roots.proofs.Laws.{among-more}
 use Rattle.tree.specs.Topology.{Node5}
 use Rattle.tree.specs.Blocks.{Filled4, Filled5}
-use Rattle.tree.specs.Active.{Record, joined, placeIn, Piece, Spot, sideOf, edgeOf, coveredBy, inactive, leafPiece, piece4}
+use Rattle.tree.specs.Active.{Record, placeIn, Piece, Spot, sideOf, edgeOf, coveredBy, inactive, leafPiece, piece4}
 use Rattle.tree.specs.Active.{piece5, pieces4, pieces5, recordAt, recordsOf, spotAt, below, spot3, spot4, spot5, spot}
-use Rattle.tree.specs.Inner.{named, kept, covering}
+use Rattle.tree.specs.Inner.{recordNamed, kept, covering}
 use Rattle.tree.proofs.Read.{Read4, Read5, Roots, FillsLeaf, Fills4, Fills5}
-use Rattle.tree.proofs.Lists.{Paired, paired-self, paired-through, joined-append, joined-map, joined-joined, kept-joined}
+use Rattle.tree.proofs.Lists.{Paired, paired-self, paired-through, flatMap-append, flatMap-map, flatMap-flatMap, kept-flatMap}
 
 -- 1. Of lists that are paired with a mask's ones, at most one gives something: that of the only place that is hit.
 module _ {A : Type 0} (hit : ℕ → Bool) (gives : A → List Record) (says : A → Spot) where
   abbrev Given : ℕ → A → Type 0
-  Given p a = gives a ≡ when (hit p) (named (says a)) []
+  Given p a = gives a ≡ when (hit p) (recordNamed (says a)) []
 
-  none-hit : (l : List ℕ) (ys : List A) → Paired Given l ys → ((p : ℕ) → List·Memᴰ p l → hit p ≡ false) → joined gives ys ≡ []
-  unfolding joined when
+  none-hit : (l : List ℕ) (ys : List A) → Paired Given l ys → ((p : ℕ) → List·Memᴰ p l → hit p ≡ false) → flatMap gives ys ≡ []
+  unfolding flatMap when
   none-hit [] [] r f = refl
   none-hit [] (y ∷ ys) r f = absurd r
   none-hit (p ∷ l) [] r f = absurd r
   none-hit (p ∷ l) (y ∷ ys) r f = rw (r .0, f p (List·Memᴰ·head refl)) (none-hit l ys (r .1) (λ q m. f q (List·Memᴰ·tail m)))
 
   one-hit : (l m : List ℕ) (p : ℕ) (ys : List A) (x : Spot) → Paired Given (l ++ p ∷ m) ys → ((q : ℕ) → List·Memᴰ q l → hit q ≡ false) → ((q : ℕ) → List·Memᴰ q m → hit q ≡ false) → hit p ≡ true →
-      joined gives ys ≡ named (getD (map says ys) (length l) x)
-  unfolding joined when
+      flatMap gives ys ≡ recordNamed (getD (map says ys) (length l) x)
+  unfolding flatMap when
   one-hit [] m p [] x r f g e = absurd r
-  one-hit [] m p (y ∷ ys) x r f g e = rw (r .0, e, none-hit m ys (r .1) g) (append-nil (named (says y)))
+  one-hit [] m p (y ∷ ys) x r f g e = rw (r .0, e, none-hit m ys (r .1) g) (append-nil (recordNamed (says y)))
   one-hit (q ∷ l) m p [] x r f g e = absurd r
   one-hit (q ∷ l) m p (y ∷ ys) x r f g e = rw (r .0, f q (List·Memᴰ·head refl)) (one-hit l m p ys x (r .1) (λ q m. f q (List·Memᴰ·tail m)) g e)
 
@@ -67,9 +67,9 @@ refute true n = absurd (n refl)
 refute false n = refl
 
 -- a child's part and the node's own, of which at most one gives something
-parts : (b t : Bool) (child own : Spot) → (t ≡ true → own .active ≡ false) → when b (when t (named child) []) [] ++ when b (named own) [] ≡ when b (named (when t child own)) []
+parts : (b t : Bool) (child own : Spot) → (t ≡ true → own .active ≡ false) → when b (when t (recordNamed child) []) [] ++ when b (recordNamed own) [] ≡ when b (recordNamed (when t child own)) []
 unfolding when
-parts true true child own h = rw (h refl) (append-nil (named child))
+parts true true child own h = rw (h refl) (append-nil (recordNamed child))
 parts true false child own h = refl
 parts false t child own h = refl
 
@@ -104,14 +104,14 @@ module _ (s : List ℕ) (c : Coding) (v : GlobalCoord) where
     -- of what is paired with the ones of a mask, the voxel meets what stands at its place
     at-place :
         {A : Type 0} (gives : A → List Record) (says : A → Spot) (f : ℕ → Bool) (ys : List A) (x : Spot) → Paired (Given (hits q) gives says) (ones f (size q)) ys →
-        joined gives ys ≡ when (holds q) (when (f (placeIn q v)) (named (getD (map says ys) (countBelow f (placeIn q v)) x)) []) []
+        flatMap gives ys ≡ when (holds q) (when (f (placeIn q v)) (recordNamed (getD (map says ys) (countBelow f (placeIn q v)) x)) []) []
     unfolding when
     at-place gives says f ys x r = go (holds q) refl (f (placeIn q v)) refl
       where
         one : (p : ℕ) → List·Memᴰ p (ones f (size q)) → (p < size q) × (f p ≡ true)
         one p m = let o = ones-mem f 0 (size q) p .0 m in (omega arith, o .2)
 
-        go : (b : Bool) → holds q ≡ b → (t : Bool) → f (placeIn q v) ≡ t → joined gives ys ≡ when b (when t (named (getD (map says ys) (countBelow f (placeIn q v)) x)) []) []
+        go : (b : Bool) → holds q ≡ b → (t : Bool) → f (placeIn q v) ≡ t → flatMap gives ys ≡ when b (when t (recordNamed (getD (map says ys) (countBelow f (placeIn q v)) x)) []) []
         go true e true h =
             let w = way-back (edgeOf (q .level)) (sideOf (q .level)) (q .origin) v (side-positive (q .level) (a .0)) (a .1) e in
             let split = rw sub-zero at (ones-split f 0 (size q) (placeIn q v) (omega arith, omega (arith, w .0), h)) in
@@ -123,11 +123,11 @@ module _ (s : List ℕ) (c : Coding) (v : GlobalCoord) where
         go false e t h = none-hit (hits q) gives says _ ys r (λ p m. outside e p (one p m .0))
 
     -- the records of the piece's own places
-    piece-cover : covering v (recordsOf s c q) ≡ when (holds q) (named (spotAt s c q v)) []
+    piece-cover : covering v (recordsOf s c q) ≡ when (holds q) (recordNamed (spotAt s c q v)) []
     unfolding recordsOf spotAt recordAt kept when
     piece-cover =
-        ap (covering v) (sym (joined-map (recordAt s c q) (ones f (size q))))
-        ∙ kept-joined (λ r. coveredBy r v) (λ p. recordAt s c q p ∷ []) (ones f (size q))
+        ap (covering v) (sym (flatMap-map (recordAt s c q) (ones f (size q))))
+        ∙ kept-flatMap (λ r. coveredBy r v) (λ p. recordAt s c q p ∷ []) (ones f (size q))
         ∙ at-place gives says f (ones f (size q)) (says 0) (paired-self _ _ λ p m. given p (ones-mem f 0 (size q) p .0 m .2))
         ∙ ap (λ (l : List Record). when (holds q) l []) (own (f (placeIn q v)) refl)
       where
@@ -140,24 +140,24 @@ module _ (s : List ℕ) (c : Coding) (v : GlobalCoord) where
         says : ℕ → Spot
         says p = record { active = f p; place = recordAt s c q p }
 
-        given : (p : ℕ) → f p ≡ true → gives p ≡ when (hits q p) (named (says p)) []
+        given : (p : ℕ) → f p ≡ true → gives p ≡ when (hits q p) (recordNamed (says p)) []
         given p e = rw e
 
-        own : (t : Bool) → f (placeIn q v) ≡ t → when t (named (getD (map says (ones f (size q))) (countBelow f (placeIn q v)) (says 0))) [] ≡ named (says (placeIn q v))
-        own true e = ap named (List·getD-map says (ones f (size q)) (countBelow f (placeIn q v)) 0 ∙ ap says (one-nth f (size q) (placeIn q v) 0 e in-size))
+        own : (t : Bool) → f (placeIn q v) ≡ t → when t (recordNamed (getD (map says (ones f (size q))) (countBelow f (placeIn q v)) (says 0))) [] ≡ recordNamed (says (placeIn q v))
+        own true e = ap recordNamed (List·getD-map says (ones f (size q)) (countBelow f (placeIn q v)) 0 ∙ ap says (one-nth f (size q) (placeIn q v) 0 e in-size))
         own false e = rw e
 
     -- a node with its children: those of `ys` are paired with its child bits, each with the pieces `of` it and what it says of the voxel
     node-cover :
         {A : Type 0} (of : A → List Piece) (says : A → Spot) (ys : List A) → overlap (maskBit s (q .child)) (maskBit s (q .value)) (size q) ≡ false →
-        Paired (Given (hits q) (λ y. joined (records s c v) (of y)) says) (ones (maskBit s (q .child)) (size q)) ys →
-        joined (records s c v) (joined of ys ++ q ∷ []) ≡ when (holds q) (named (below s c q v (map says ys))) []
-    unfolding joined below spotAt when
+        Paired (Given (hits q) (λ y. flatMap (records s c v) (of y)) says) (ones (maskBit s (q .child)) (size q)) ys →
+        flatMap (records s c v) (flatMap of ys ++ q ∷ []) ≡ when (holds q) (recordNamed (below s c q v (map says ys))) []
+    unfolding flatMap below spotAt when
     node-cover of says ys apart r =
-        joined-append (records s c v) (joined of ys) (q ∷ [])
+        flatMap-append (records s c v) (flatMap of ys) (q ∷ [])
         ∙ rw (
-          joined-joined (records s c v) of ys,
-          at-place (λ y. joined (records s c v) (of y)) says (maskBit s (q .child)) ys (inactive (recordAt s c q (placeIn q v))) r,
+          flatMap-flatMap (records s c v) of ys,
+          at-place (λ y. flatMap (records s c v) (of y)) says (maskBit s (q .child)) ys (inactive (recordAt s c q (placeIn q v))) r,
           append-nil (records s c v q),
           piece-cover,
         )
@@ -167,10 +167,10 @@ module _ (s : List ℕ) (c : Coding) (v : GlobalCoord) where
 -- 3. The tree, node by node: of the pieces of a node with origin o and this span, the records that cover the voxel are what the descent names.
 module _ (s : List ℕ) (c : Coding) (v : GlobalCoord) where
   abbrev Covered : ℕ → GlobalCoord → List Piece → Spot → Type 0
-  Covered span o ps t = joined (records s c v) ps ≡ when (covers o span v) (named t) []
+  Covered span o ps t = flatMap (records s c v) ps ≡ when (covers o span v) (recordNamed t) []
 
   block-cover : (b : Block) (o : GlobalCoord) → b .origin ≡ o → aligned 8 o ≡ true → Covered 8 o (leafPiece b ∷ []) (spot3 s c v b)
-  unfolding joined
+  unfolding flatMap
   block-cover b o e a = append-nil (records s c v (leafPiece b)) ∙ rw (← e) (piece-cover s c v (leafPiece b) (lit≤ tt, rw e a))
 
   filled4-cover : (f : Filled4) (o : GlobalCoord) → Read4 s o (f .node) → Paired (FillsLeaf s) (f .node .leaves) (f .blocks) → aligned 128 o ≡ true → Covered 128 o (pieces4 f) (spot4 s c v f)
@@ -178,7 +178,7 @@ module _ (s : List ℕ) (c : Coding) (v : GlobalCoord) where
   filled4-cover f o r same a =
       let b : aligned 128 (f .node .origin) ≡ true = rw (r .origin) a in
       rw (← r .origin)
-      (rw (joined-map leafPiece (f .blocks)) at (node-cover s c v (piece4 (f .node)) (lit≤ tt, b) (λ y. leafPiece y ∷ []) (spot3 s c v) (f .blocks) (r .apart)
+      (rw (flatMap-map leafPiece (f .blocks)) at (node-cover s c v (piece4 (f .node)) (lit≤ tt, b) (λ y. leafPiece y ∷ []) (spot3 s c v) (f .blocks) (r .apart)
       (paired-through _ _ _ (λ p l x e i. block-cover x _ (i .0 ∙ e) (child-aligned 16 8 (f .node .origin) (index p) (lit< tt) (lit< tt) b))
       (ones (maskBit s (f .node .header .child)) 4096) (f .node .leaves) (f .blocks) (r .children) same)))
 
@@ -203,16 +203,16 @@ module _ (s : List ℕ) (c : Coding) (v : GlobalCoord) where
 
   -- a root's part and that of the later ones: nothing where the voxel's root came earlier
   root-parts : (among same : Bool) (here later : Spot) → (same ≡ true → among ≡ false) →
-      when same (named here) [] ++ when (among || same) [] (named later) ≡ when among [] (named (when same here later))
+      when same (recordNamed here) [] ++ when (among || same) [] (recordNamed later) ≡ when among [] (recordNamed (when same here later))
   unfolding when
   root-parts true true here later h = absurd (true≢false (h refl))
   root-parts true false here later h = refl
-  root-parts false true here later h = append-nil (named here)
+  root-parts false true here later h = append-nil (recordNamed here)
   root-parts false false here later h = refl
 
   pub roots-cover : (background : ℕ) (ns : List Node5) (fs : List Filled5) (earlier : List GlobalCoord) → Roots s ns earlier → Paired (Fills5 s) ns fs →
-      joined (records s c v) (joined pieces5 fs) ≡ when (isAmong (rootOrigin v) earlier) [] (named (spot s c background fs v))
-  unfolding joined spot when
+      flatMap (records s c v) (flatMap pieces5 fs) ≡ when (isAmong (rootOrigin v) earlier) [] (recordNamed (spot s c background fs v))
+  unfolding flatMap spot when
   roots-cover background [] [] earlier r same = go (isAmong (rootOrigin v) earlier)
     where
       go : (b : Bool) → [] ≡ when {A = List Record} b [] []
@@ -225,7 +225,7 @@ module _ (s : List ℕ) (c : Coding) (v : GlobalCoord) where
       let a : aligned 4096 (f .node .origin) ≡ true = rw e (r .0) in
       let new : isAmong (f .node .origin) earlier ≡ false = rw e (r .1) in
       let read : Read5 s (f .node .origin) (f .node) = rw e (r .2) in
-      joined-append (records s c v) (pieces5 f) (joined pieces5 fs)
+      flatMap-append (records s c v) (pieces5 f) (flatMap pieces5 fs)
       ∙ rw (filled5-cover s c v f read (same .0 .1) a, root-holds (f .node .origin) a, roots-cover background ns fs _ (r .3) (same .1), among-more (rootOrigin v) (n .origin) earlier, ← e)
       (root-parts (isAmong (rootOrigin v) earlier) (sameCoord (f .node .origin) (rootOrigin v)) (spot5 s c v f) (spot s c background fs v) λ i.
       ap (λ (o : GlobalCoord). isAmong o earlier) (sym (same-coord _ _ i)) ∙ new)

@@ -13,12 +13,12 @@ use Rattle.roots.specs.Roots.{isAmong}
 use Rattle.tree.specs.Topology.{Node5, rootsField}
 use Rattle.tree.specs.Blocks.{Filled5, blocksField}
 use Rattle.tree.specs.Active.{Record, Spot, coveredBy, pieces, recordsOf, activeList, spot}
-use Rattle.tree.specs.Inner.{covering, named}
-use Rattle.tree.proofs.Lists.{kept-joined, kept-from, kept-to, kept-two}
+use Rattle.tree.specs.Inner.{covering, recordNamed}
+use Rattle.tree.proofs.Lists.{kept-flatMap, kept-from, kept-to, kept-two}
 use Rattle.tree.proofs.Read.{roots-read, same-tree}
 use Rattle.tree.proofs.Cover.{roots-cover}
 
-named-to : (t : Spot) (r : Record) → List·Memᴰ r (named t) → (t .active ≡ true) × (t .place ≡ r)
+named-to : (t : Spot) (r : Record) → List·Memᴰ r (recordNamed t) → (t .active ≡ true) × (t .place ≡ r)
 unfolding when
 named-to t r = go (t .active)
   where
@@ -26,11 +26,11 @@ named-to t r = go (t .active)
     go true m = (refl, sym (List·Memᴰ·eq-of-singleton m))
     go false m = absurd (List·Memᴰ·not-nil m)
 
-named-from : (t : Spot) (r : Record) → t .active ≡ true → t .place ≡ r → List·Memᴰ r (named t)
+named-from : (t : Spot) (r : Record) → t .active ≡ true → t .place ≡ r → List·Memᴰ r (recordNamed t)
 unfolding when
 named-from t r e p = rw e (List·Memᴰ·head (sym p))
 
-named-length : (t : Spot) → length (named t) ≤ 1
+named-length : (t : Spot) → length (recordNamed t) ≤ 1
 unfolding when
 named-length t = go (t .active)
   where
@@ -51,10 +51,10 @@ pub record Parsed (s : List ℕ) (c : Coding) (roots : List Node5) (filled : Lis
 -- Whatever value the background has, of which no record is made.
 module _ {s : List ℕ} {c : Coding} {roots : List Node5} {filled : List Filled5} (t : Parsed s c roots filled) (background : ℕ) where
   -- The records of the active list that cover a voxel, in list order: the one that the descent names, where it says active, else none.
-  pub coverage : (v : GlobalCoord) → covering v (activeList s c filled) ≡ named (spot s c background filled v)
+  pub coverage : (v : GlobalCoord) → covering v (activeList s c filled) ≡ recordNamed (spot s c background filled v)
   unfolding pieces isAmong when
   coverage v =
-      kept-joined (λ r. coveredBy r v) (recordsOf s c) (pieces filled)
+      kept-flatMap (λ r. coveredBy r v) (recordsOf s c) (pieces filled)
       ∙ roots-cover s c v background roots filled [] (roots-read (t .count) [] s c (t .start) roots (t .end) (t .roots-read))
       (same-tree s c roots (t .block) filled (t .past) (t .blocks-read))
 

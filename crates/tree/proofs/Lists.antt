@@ -1,6 +1,6 @@
 -- Laws of lists: members in pairs, what a join keeps, a run of parses by its members, and what holds of each member.
 use mathlib.Core.Path.{_≡_, refl, sym, ap, ap₂, _∙_}
-use mathlib.Core.List.{List, [], _∷_, _++_, map, append-assoc, List·Memᴰ, List·Memᴰ·head, List·Memᴰ·tail, List·Memᴰ·cases-cons, List·Memᴰ·not-nil}
+use mathlib.Core.List.{List, [], _∷_, _++_, map, append-assoc, List·Memᴰ, List·Memᴰ·head, List·Memᴰ·tail, List·Memᴰ·cases-cons, List·Memᴰ·not-nil, flatMap}
 use mathlib.Core.Logic.{_⊎_, inl, inr, ⊎-elim}
 use mathlib.Core.Bool.{Bool, true, false, true≢false}
 use Prim.Native.Nat.{ℕ, zero, suc, _≤_, _<_}
@@ -9,7 +9,6 @@ use lib.ListN.{length, getD}
 use Rattle.fields.specs.Parse.{Parse, when, many}
 use Rattle.fields.proofs.Laws.{Always, then-always, got-always}
 use Rattle.fields.proofs.Agree.{Each, each-append}
-use Rattle.tree.specs.Active.{joined}
 use Rattle.tree.specs.Inner.{kept}
 
 -- Two lists of the same length, of which R holds member by member.
@@ -44,20 +43,20 @@ paired-through R Q P f (x ∷ xs) (y ∷ ys) (z ∷ zs) r q = (f x y z (r .0) (q
 
 -- Joins.
 module _ {A B : Type 0} where
-  pub joined-append : (f : A → List B) (x y : List A) → joined f (x ++ y) ≡ joined f x ++ joined f y
-  unfolding joined
-  joined-append f [] y = refl
-  joined-append f (a ∷ x) y = rw (joined-append f x y) (sym (append-assoc (f a) (joined f x) (joined f y)))
+  pub flatMap-append : (f : A → List B) (x y : List A) → flatMap f (x ++ y) ≡ flatMap f x ++ flatMap f y
+  unfolding flatMap
+  flatMap-append f [] y = refl
+  flatMap-append f (a ∷ x) y = rw (flatMap-append f x y) (sym (append-assoc (f a) (flatMap f x) (flatMap f y)))
 
-  pub joined-map : (f : A → B) (l : List A) → joined (λ a. f a ∷ []) l ≡ map f l
-  unfolding joined
-  joined-map f [] = refl
-  joined-map f (a ∷ l) = ap (λ (l : List B). f a ∷ l) (joined-map f l)
+  pub flatMap-map : (f : A → B) (l : List A) → flatMap (λ a. f a ∷ []) l ≡ map f l
+  unfolding flatMap
+  flatMap-map f [] = refl
+  flatMap-map f (a ∷ l) = ap (λ (l : List B). f a ∷ l) (flatMap-map f l)
 
-pub joined-joined : {A B C : Type 0} (f : B → List C) (g : A → List B) (l : List A) → joined f (joined g l) ≡ joined (λ a. joined f (g a)) l
-unfolding joined
-joined-joined f g [] = refl
-joined-joined f g (a ∷ l) = joined-append f (g a) (joined g l) ∙ rw (joined-joined f g l)
+pub flatMap-flatMap : {A B C : Type 0} (f : B → List C) (g : A → List B) (l : List A) → flatMap f (flatMap g l) ≡ flatMap (λ a. flatMap f (g a)) l
+unfolding flatMap
+flatMap-flatMap f g [] = refl
+flatMap-flatMap f g (a ∷ l) = flatMap-append f (g a) (flatMap g l) ∙ rw (flatMap-flatMap f g l)
 
 -- What passes a test.
 module _ {B : Type 0} (test : B → Bool) where
@@ -79,10 +78,10 @@ module _ {B : Type 0} (test : B → Bool) where
       go true e h = rw (kept-yes a (x ++ y) e, kept-yes a x e, h)
       go false e h = rw (kept-no a (x ++ y) e, kept-no a x e, h)
 
-  pub kept-joined : {A : Type 0} (f : A → List B) (l : List A) → kept test (joined f l) ≡ joined (λ a. kept test (f a)) l
-  unfolding joined kept
-  kept-joined f [] = refl
-  kept-joined f (a ∷ l) = kept-append (f a) (joined f l) ∙ rw (kept-joined f l)
+  pub kept-flatMap : {A : Type 0} (f : A → List B) (l : List A) → kept test (flatMap f l) ≡ flatMap (λ a. kept test (f a)) l
+  unfolding flatMap kept
+  kept-flatMap f [] = refl
+  kept-flatMap f (a ∷ l) = kept-append (f a) (flatMap f l) ∙ rw (kept-flatMap f l)
 
   -- a member that passes is kept; what is kept is a member that passes
   pub kept-from : (b : B) (l : List B) → List·Memᴰ b l → test b ≡ true → List·Memᴰ b (kept test l)
@@ -134,17 +133,17 @@ module _ {A B : Type 0} (P : A → Type 0) where
   map-same f g [] k h = refl
   map-same f g (a ∷ l) k h = ap₂ _∷_ (h a (k .0)) (map-same f g l (k .1) h)
 
-  pub joined-same : (f g : A → List B) (l : List A) → Each P l → ((a : A) → P a → f a ≡ g a) → joined f l ≡ joined g l
-  unfolding joined
-  joined-same f g [] k h = refl
-  joined-same f g (a ∷ l) k h = ap₂ _++_ (h a (k .0)) (joined-same f g l (k .1) h)
+  pub flatMap-same : (f g : A → List B) (l : List A) → Each P l → ((a : A) → P a → f a ≡ g a) → flatMap f l ≡ flatMap g l
+  unfolding flatMap
+  flatMap-same f g [] k h = refl
+  flatMap-same f g (a ∷ l) k h = ap₂ _++_ (h a (k .0)) (flatMap-same f g l (k .1) h)
 
 module _ {A B : Type 0} (P : A → Type 0) (Q : B → Type 0) where
   pub each-map : (f : A → B) (l : List A) → Each P l → ((a : A) → P a → Q (f a)) → Each Q (map f l)
   each-map f [] k h = tt
   each-map f (a ∷ l) k h = (h a (k .0), each-map f l (k .1) h)
 
-  pub each-joined : (f : A → List B) (l : List A) → Each P l → ((a : A) → P a → Each Q (f a)) → Each Q (joined f l)
-  unfolding joined
-  each-joined f [] k h = tt
-  each-joined f (a ∷ l) k h = each-append Q (f a) (joined f l) (h a (k .0)) (each-joined f l (k .1) h)
+  pub each-flatMap : (f : A → List B) (l : List A) → Each P l → ((a : A) → P a → Each Q (f a)) → Each Q (flatMap f l)
+  unfolding flatMap
+  each-flatMap f [] k h = tt
+  each-flatMap f (a ∷ l) k h = each-append Q (f a) (flatMap f l) (h a (k .0)) (each-flatMap f l (k .1) h)

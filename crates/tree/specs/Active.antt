@@ -1,6 +1,6 @@
 -- Section 7: the active list, and what a voxel meets on the way down its tree.
 use Prim.Native.Nat.{ℕ, zero, suc}
-use mathlib.Core.List.{List, [], _∷_, _++_, map}
+use mathlib.Core.List.{List, [], _∷_, _++_, map, flatMap}
 use mathlib.Core.Bool.{Bool, false}
 use lib.ListN.{getD}
 use Rattle.fields.specs.Parse.{when}
@@ -40,11 +40,6 @@ edgeOf (suc (suc (suc n))) = 0
 abbrev pub coveredBy : Record → GlobalCoord → Bool
 coveredBy r v = covers (r .corner) (sideOf (r .level)) v
 
--- a list for each member, joined in order
-unfoldable pub joined : {A B : Type 0} → (A → List B) → List A → List B
-joined f [] = []
-joined f (a ∷ rest) = f a ++ joined f rest
-
 -- A leaf, a 4-node or a 5-node: level 0, 1 or 2, origin, positions of child mask and value mask, values. A leaf has no child mask; its value
 -- mask stands there.
 pub record Piece : Type 0 where
@@ -68,10 +63,10 @@ unfoldable pub pieces4 : Filled4 → List Piece
 pieces4 f = map leafPiece (f .blocks) ++ piece4 (f .node) ∷ []
 
 unfoldable pub pieces5 : Filled5 → List Piece
-pieces5 f = joined pieces4 (f .nodes) ++ piece5 (f .node) ∷ []
+pieces5 f = flatMap pieces4 (f .nodes) ++ piece5 (f .node) ∷ []
 
 unfoldable pub pieces : List Filled5 → List Piece
-pieces roots = joined pieces5 roots
+pieces roots = flatMap pieces5 roots
 
 -- the record of place p
 unfoldable pub recordAt : List ℕ → Coding → Piece → ℕ → Record
@@ -87,11 +82,11 @@ recordsOf s c q = map (recordAt s c q) (ones (maskBit s (q .value)) (places (edg
 
 -- Section 7: the records of all pieces, in the order of the roots and, in a root, of its pieces.
 abbrev pub activeList : List ℕ → Coding → List Filled5 → List Record
-activeList s c roots = joined (recordsOf s c) (pieces roots)
+activeList s c roots = flatMap (recordsOf s c) (pieces roots)
 
 -- all blocks of a filled tree, in topology order
 unfoldable pub allBlocks : List Filled5 → List Block
-allBlocks roots = joined (λ f. joined (λ g. g .blocks) (f .nodes)) roots
+allBlocks roots = flatMap (λ f. flatMap (λ g. g .blocks) (f .nodes)) roots
 
 -- What a voxel meets where its way down the tree ends: the record of that place, and whether the place is active.
 pub record Spot : Type 0 where

@@ -25,5 +25,5 @@ abbrev pub covering : GlobalCoord → List Record → List Record
 covering v l = kept (λ r. coveredBy r v) l
 
 -- the record that a spot names, where it is active
-abbrev pub named : Spot → List Record
-named t = when (t .active) (t .place ∷ []) []
+abbrev pub recordNamed : Spot → List Record
+recordNamed t = when (t .active) (t .place ∷ []) []

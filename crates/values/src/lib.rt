@@ -8,7 +8,7 @@ ghost use Rattle.masks.specs.Masks.{maskBit, countBelow};
 ghost use Rattle.masks.specs.Inner.{IsMask};
 ghost use Rattle.half.specs.Inner.{isTable, isWidth};
 ghost use Rattle.half.specs.Half.{storedValue};
-ghost use Rattle.fields.specs.Inner.{saysU32, saysSpan};
+ghost use Rattle.fields.specs.Says.{saysU32, saysSpan};
 ghost use Rattle.values.specs.Values.{isPacked, formSelected, formField, inactiveField, selectionField, inactivesField, storedBy, headField, isStored, numberOf, countOf, runField, valuesField, inactiveValue, placeValue, leafValues};
 ghost use Rattle.values.specs.Inner.{selectionHeld, InRun, Held, saysForm, saysSelection, saysInactives, saysHead, saysValues};
 use coordinates::Index;

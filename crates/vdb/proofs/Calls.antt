@@ -4,9 +4,9 @@ use mathlib.Core.List.{List, [], _∷_}
 use Prim.Native.Nat.{ℕ, _+_, _≤_}
 use native.Mathlib.Omega.{arith}
 use lib.ListN.{length, length-take, length-drop}
-use Rattle.archive.specs.Answer.{gives}
+use Rattle.fields.specs.Answer.{gives}
 use Rattle.archive.specs.declared.Asked.{Asked}
-use Rattle.archive.proofs.Laws.{with-back, gives-same}
+use Rattle.fields.proofs.Answers.{with-back, gives-same}
 use Rattle.slots.specs.Slots.{slotCount}
 use Rattle.grid.specs.Grid.{Grid, grid, openGrid, activeOf, placeAfter}
 use Rattle.grid.specs.declared.OpenedGrid.{OpenedGrid}

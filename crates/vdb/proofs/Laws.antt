@@ -4,7 +4,7 @@ use mathlib.Core.Bool.{true, false, true≢false}
 use mathlib.Core.List.{List, [], _∷_}
 use Prim.Native.Nat.{ℕ}
 use native.Mathlib.Omega.{arith}
-use Rattle.archive.specs.Answer.{Answer, gives, refuses}
+use Rattle.fields.specs.Answer.{Answer, gives, refuses}
 use Rattle.fields.proofs.Laws.{told}
 use Rattle.grid.specs.Answers.{saysGridAnswer}
 use Rattle.leaves.specs.Answers.{saysFill, keptBy}

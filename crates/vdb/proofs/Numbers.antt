@@ -19,8 +19,8 @@ use Rattle.header.specs.Header.{magicField, versionField, offsetsField, packedF
 use Rattle.header.specs.declared.ArchiveHeader.{ArchiveHeader}
 use Rattle.descriptor.specs.Descriptor.{namesField, positionField, positionsField, flagsField, descriptor}
 use Rattle.descriptor.specs.declared.GridDescriptor.{GridDescriptor}
-use Rattle.archive.specs.Answer.{Answer, gives, refuses, answer, with, present}
-use Rattle.archive.specs.Archive.{descriptors, file, openFile, fileAsked, gridAsked, entryAt, fileEntry, gridEntry}
+use Rattle.fields.specs.Answer.{Answer, gives, refuses, answer, with}
+use Rattle.archive.specs.Archive.{present, descriptors, file, openFile, fileAsked, gridAsked, entryAt, fileEntry, gridEntry}
 use Rattle.archive.specs.declared.Asked.{Asked}
 use Rattle.transform.specs.Transform.{mapKindField, scaleField, scaleTranslateField, mapField, transform}
 use Rattle.transform.specs.declared.MapKind.{MapKind}
@@ -244,8 +244,8 @@ node-n s c n at =
     then-n _ _ (field-n s n _ at) λ child p. then-n _ _ (field-n s n _ p) λ value q.
     check-n _ 18 _ refl (then-n _ _ (values-n s c _ n _ _ q) λ v r. tt)
 
-leaf-buffers-n : (s : List ℕ) (at : ℕ) → Numbered (N.buffersField s at)
-unfolding N.buffersField
+leaf-buffers-n : (s : List ℕ) (at : ℕ) → Numbered (N.leafBuffersField s at)
+unfolding N.leafBuffersField
 leaf-buffers-n s at = then-n _ _ (field-n s 1 _ at) λ b p. check-n _ 20 _ refl tt
 
 old-n : (s : List ℕ) (v : ℕ) (o : GlobalCoord) (at : ℕ) → Numbered (oldField s v o at)

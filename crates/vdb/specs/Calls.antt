@@ -7,7 +7,7 @@ use Rattle.slots.specs.Slots.{Slots}
 use Rattle.walk.specs.Walk.{saysWalk}
 use Rattle.walk.specs.Demand3.{Call, Demand3}
 use Rattle.walk.specs.declared.Walked.{Walked}
-use Rattle.archive.specs.Answer.{gives}
+use Rattle.fields.specs.Answer.{gives}
 use Rattle.grid.specs.declared.OpenedGrid.{OpenedGrid}
 use Rattle.vdb.specs.Vdb.{WalkCall}
 

@@ -3,7 +3,7 @@ use Prim.Native.Nat.{ℕ}
 use mathlib.Core.Path.{_≡_}
 use mathlib.Core.List.{List, [], _∷_}
 use mathlib.Core.Bool.{false}
-use Rattle.archive.specs.Answer.{Answer, gives, refuses}
+use Rattle.fields.specs.Answer.{Answer, gives, refuses}
 use Rattle.grid.specs.declared.OpenedGrid.{OpenedGrid}
 use Rattle.slots.specs.Slots.{Slots}
 use Rattle.walk.specs.Walk.{saysWalk, Promise}

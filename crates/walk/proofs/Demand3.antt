@@ -1,15 +1,15 @@
 -- Demand 3: what any calls over one accepted grid hand out and report.
 use mathlib.Core.Path.{_≡_, refl, ap, _∙_}
-use mathlib.Core.List.{List, [], _∷_}
+use mathlib.Core.List.{List, [], _∷_, flatMap}
 use Prim.Native.Nat.{ℕ, suc, _+_, _-_, _≤_, _<_, min}
 use native.Mathlib.Omega.{arith}
 use lib.IntN.{pos}
 use lib.ListN.{length, getD, take, drop, take-append-drop, length-take, length-drop, length-set}
 use lib.Seq.{take-append-seam, drop-append-seam, getD-set-same, getD-set-other, drop-drop, take-add}
-use Rattle.archive.specs.Answer.{gives}
+use Rattle.fields.specs.Answer.{gives}
 use Rattle.archive.specs.declared.Asked.{Asked}
-use Rattle.archive.proofs.Laws.{with-back, gives-same}
-use Rattle.tree.specs.Active.{Record, joined}
+use Rattle.fields.proofs.Answers.{with-back, gives-same}
+use Rattle.tree.specs.Active.{Record}
 use Rattle.slots.specs.Slots.{Slots, slotCount, put, laidFrom}
 use Rattle.grid.specs.Grid.{Grid, grid, openGrid, openedOf, activeOf, placeAfter}
 use Rattle.grid.specs.declared.OpenedGrid.{OpenedGrid}
@@ -68,8 +68,8 @@ module _ (s : List ℕ) (asked : Asked) (name : List ℕ) {g : Grid} (accepted :
   -- Calls from the place after m records hand out those that come next, as many as there are slots, and report what they should.
   go-on :
       (m : ℕ) (cs : List Call) → m ≤ length (activeOf s g) → Calls s (placeAfter s g m) cs →
-      (joined handedOut cs ≡ take (slotsLent cs) (drop m (activeOf s g))) × Reports (length (activeOf s g)) m cs
-  unfolding joined slotsLent
+      (flatMap handedOut cs ≡ take (slotsLent cs) (drop m (activeOf s g))) × Reports (length (activeOf s g)) m cs
+  unfolding flatMap slotsLent
   go-on m [] h q = (refl, tt)
   go-on m (c ∷ cs) h q =
       let k = slotCount (c .before) in

@@ -9,10 +9,10 @@ use lib.ListN.{length}
 use borrow.Author.Tests.{ne-eqb, eqb-true, eqb-false}
 use Rattle.fields.specs.Parse.{when}
 use Rattle.half.specs.Inner.{isWidth}
-use Rattle.archive.specs.Answer.{Answer, gives, refuses}
+use Rattle.fields.specs.Answer.{Answer, gives, refuses}
 use Rattle.slots.specs.Slots.{Slots, slotCount, laidFrom}
 use Rattle.slots.specs.Inner.{Room}
-use Rattle.place.specs.Inner.{Course, handOn, moved, Walks}
+use Rattle.place.specs.Inner.{Course, handOn, moved, HandedOn}
 use Rattle.place.proofs.Cut.{hand-most}
 use Rattle.place.specs.declared.Place.{Place}
 use Rattle.place.specs.declared.Stand.{Stand}
@@ -20,7 +20,7 @@ use Rattle.walk.specs.Walk.{saysWalk, neededNext, LeftBehind, Promise}
 use Rattle.walk.specs.Inner.{isWide, wanted, courseFrom, found, stands, walkFrom, Does}
 use Rattle.walk.proofs.Past.{nothing-there}
 use Rattle.walk.proofs.Reached.{does-next, length-nil}
-use Rattle.archive.proofs.Laws.{gives-same}
+use Rattle.fields.proofs.Answers.{gives-same}
 use Rattle.grid.proofs.Coverage.{grid-read}
 use Rattle.tree.specs.Active.{Record}
 use Rattle.walk.specs.declared.Walked.{Walked}
@@ -48,10 +48,10 @@ some-of k left a b e = omega (arith, a, b, e)
 -- the count that the code has is the one that is wanted
 pub walks-by :
     (s : List ℕ) (p : Place) (k : ℕ) {n : ℕ} {t t′ : Slots} {v : Stand} → n ≡ wanted p k →
-    Walks (handOn s (p .start .coding) n (p .cursor) (p .inside)) t t′ v → Walks (courseFrom s p k) t t′ v
+    HandedOn (handOn s (p .start .coding) n (p .cursor) (p .inside)) t t′ v → HandedOn (courseFrom s p k) t t′ v
 walks-by s p k e f = rw (← e) f
 
-pub left-enough : (s : List ℕ) (p : Place) (k : ℕ) {t t′ : Slots} {v : Stand} → Walks (courseFrom s p k) t t′ v → v .filled ≤ p .left
+pub left-enough : (s : List ℕ) (p : Place) (k : ℕ) {t t′ : Slots} {v : Stand} → HandedOn (courseFrom s p k) t t′ v → v .filled ≤ p .left
 left-enough s p k f =
     let l = hand-most s (p .start .coding) (wanted p k) (p .cursor) (p .inside) in
     omega (arith, f .filled, l)
@@ -86,7 +86,7 @@ module _ (s : List ℕ) (p : Place) (t : Slots) where
   unfolding walkFrom found when laidFrom
   not-wide n e = record { answer = rw (ne-eqb _ 0 n, e); slots = rw (ne-eqb _ 0 n, e) }
 
-  module _ (some-wanted : wanted p k ≡ 0 → ⊥) (e : isWide (p .start .coding .width) ≡ true) {t′ : Slots} {v : Stand} (f : Walks (courseFrom s p k) t t′ v) where
+  module _ (some-wanted : wanted p k ≡ 0 → ⊥) (e : isWide (p .start .coding .width) ≡ true) {t′ : Slots} {v : Stand} (f : HandedOn (courseFrom s p k) t t′ v) where
     pub none-found : v .filled ≡ 0 → Does s p t (WalkRefused 22) t′
     unfolding walkFrom found when
     none-found z = record { answer = rw (ne-eqb _ 0 some-wanted, e, sym (f .filled) ∙ z); slots = rw (ne-eqb _ 0 some-wanted, e) (f .slots) }

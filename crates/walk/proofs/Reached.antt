@@ -10,7 +10,7 @@ use lib.ListN.{length, take, drop, length-take, length-drop}
 use borrow.Author.Tests.{eqb-true, eqb-false}
 use Rattle.fields.specs.Parse.{when}
 use Rattle.half.specs.Inner.{isWidth}
-use Rattle.archive.specs.Answer.{gives, refuses}
+use Rattle.fields.specs.Answer.{gives, refuses}
 use Rattle.tree.specs.Active.{Record}
 use Rattle.slots.specs.Slots.{Slots, slotCount, laidFrom}
 use Rattle.cursor.specs.declared.Cursor.{Cursor}

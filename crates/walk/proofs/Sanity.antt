@@ -6,9 +6,9 @@ use Prim.Native.Nat.{ℕ, _+_, _-_, _≤_, _<_}
 use native.Mathlib.Omega.{arith}
 use lib.ListN.{length}
 use Rattle.fields.specs.Parse.{when}
-use Rattle.archive.specs.Answer.{gives, refuses}
+use Rattle.fields.specs.Answer.{gives, refuses}
 use Rattle.archive.specs.declared.Asked.{Asked}
-use Rattle.archive.proofs.Laws.{gives-same}
+use Rattle.fields.proofs.Answers.{gives-same}
 use Rattle.slots.specs.Slots.{Slots, slotCount}
 use Rattle.place.specs.Inner.{placeFrom}
 use Rattle.place.specs.declared.Place.{Place}

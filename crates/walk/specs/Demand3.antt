@@ -3,13 +3,13 @@ use Prim.Native.Nat.{ℕ, zero, suc, _+_, _-_, _<_, min}
 use mathlib.Core.Path.{_≡_}
 use mathlib.Core.Logic.{_↔_}
 use mathlib.Core.Bool.{true}
-use mathlib.Core.List.{List, [], _∷_, List·Memᴰ}
+use mathlib.Core.List.{List, [], _∷_, List·Memᴰ, flatMap}
 use lib.IntN.{pos}
 use lib.ListN.{length, getD, take}
-use Rattle.archive.specs.Answer.{gives}
+use Rattle.fields.specs.Answer.{gives}
 use Rattle.archive.specs.declared.Asked.{Asked}
 use Rattle.coordinates.specs.declared.GlobalCoord.{GlobalCoord}
-use Rattle.tree.specs.Active.{Record, coveredBy, joined}
+use Rattle.tree.specs.Active.{Record, coveredBy}
 use Rattle.slots.specs.Slots.{Slots, slotCount}
 use Rattle.place.specs.declared.Place.{Place}
 use Rattle.grid.specs.Grid as G
@@ -71,7 +71,7 @@ pub record Demand3 (s : List ℕ) (asked : Asked) (name : List ℕ) (o : OpenedG
   -- whose length opening the grid gave,
   pub counted : o .«active_count» ≡ length (activeOf s grid)
   -- the records handed out, joined in call order, are the first n of the list, n being the smaller of its length and the sum of all slots lent;
-  pub records : joined handedOut cs ≡ take (min (o .«active_count») (slotsLent cs)) (activeOf s grid)
+  pub records : flatMap handedOut cs ≡ take (min (o .«active_count») (slotsLent cs)) (activeOf s grid)
   -- no call is refused, and each hands out and reports what it should;
   pub each : Reports (o .«active_count») 0 cs
   -- in the list no two records cover a common voxel,

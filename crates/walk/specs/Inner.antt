@@ -7,7 +7,7 @@ use mathlib.Core.Path.{_≡_}
 use lib.Dec.{eqb}
 use lib.ListN.{length}
 use Rattle.fields.specs.Parse.{when}
-use Rattle.archive.specs.Answer.{Answer, gives, refuses}
+use Rattle.fields.specs.Answer.{Answer, gives, refuses}
 use Rattle.tree.specs.Active.{Record}
 use Rattle.slots.specs.Slots.{Slots, slotCount, laidFrom}
 use Rattle.place.specs.Inner.{Course, handOn, moved}

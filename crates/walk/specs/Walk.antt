@@ -6,7 +6,7 @@ use lib.Dec.{ltb, eqb}
 use lib.ListN.{length, take, drop}
 use Rattle.fields.specs.Parse.{when}
 use Rattle.coordinates.specs.Coordinates.{places}
-use Rattle.archive.specs.Answer.{Answer, gives, refuses}
+use Rattle.fields.specs.Answer.{Answer, gives, refuses}
 use Rattle.archive.specs.declared.Asked.{Asked}
 use Rattle.tree.specs.Active.{Record, edgeOf}
 use Rattle.slots.specs.Slots.{Slots, slotCount, laidFrom}

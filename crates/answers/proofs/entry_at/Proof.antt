@@ -1,9 +1,10 @@
 -- Metadata that runs past the end is check 2, and an entry that is not found is check 11, as in the definition.
 use borrow.Author.Needs.{needs}
 use Rattle.metadata.specs.Inner.{saysMetadata, saysFoundEntry}
-use Rattle.archive.proofs.Laws.{answers, answer-by, with-present}
-use Rattle.archive.specs.Answer.{answer, present}
-use Rattle.archive.specs.Archive.{entryAt}
+use Rattle.fields.proofs.Answers.{answers, answer-by}
+use Rattle.archive.proofs.Laws.{with-present}
+use Rattle.fields.specs.Answer.{answer}
+use Rattle.archive.specs.Archive.{present, entryAt}
 use Rattle.answers.proofs.entry_at.Statement.{statement}
 use Rattle.answers.proofs.entry_at.Tie as tie
 

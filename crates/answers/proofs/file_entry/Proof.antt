@@ -1,6 +1,6 @@
 -- The file is opened first; its metadata is searched from where its header says.
 use borrow.Author.Needs.{needs}
-use Rattle.archive.proofs.Laws.{answers, with-by}
+use Rattle.fields.proofs.Answers.{answers, with-by}
 use Rattle.archive.specs.Archive.{fileEntry}
 use Rattle.answers.specs.Answers.{saysHeaderAnswer}
 use Rattle.answers.proofs.file_entry.Statement.{statement}

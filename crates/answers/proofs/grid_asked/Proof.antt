@@ -1,8 +1,8 @@
 -- The whole file is opened first; a grid that is not found is check 11.
 use borrow.Author.Needs.{needs}
-use Rattle.archive.proofs.Laws.{answers, with-by, present-by}
-use Rattle.archive.specs.Answer.{present}
-use Rattle.archive.specs.Archive.{gridAsked}
+use Rattle.fields.proofs.Answers.{answers, with-by}
+use Rattle.archive.proofs.Laws.{present-by}
+use Rattle.archive.specs.Archive.{present, gridAsked}
 use Rattle.archive.specs.Inner.{saysFile, saysFoundGrid}
 use Rattle.answers.proofs.grid_asked.Statement.{statement}
 use Rattle.answers.proofs.grid_asked.Tie as tie

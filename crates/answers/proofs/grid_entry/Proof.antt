@@ -1,6 +1,6 @@
 -- The grid is found first; its metadata is searched from where its descriptor says.
 use borrow.Author.Needs.{needs}
-use Rattle.archive.proofs.Laws.{answers, with-by}
+use Rattle.fields.proofs.Answers.{answers, with-by}
 use Rattle.archive.specs.Archive.{gridEntry}
 use Rattle.answers.specs.Answers.{saysDescriptorAnswer}
 use Rattle.answers.proofs.grid_entry.Statement.{statement}

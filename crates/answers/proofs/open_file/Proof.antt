@@ -1,6 +1,7 @@
 -- Opening a file is opening it with no grid asked for, of which only the header is kept.
 use borrow.Author.Needs.{needs}
-use Rattle.archive.proofs.Laws.{answers, with-by, open-by}
+use Rattle.fields.proofs.Answers.{answers, with-by}
+use Rattle.archive.proofs.Laws.{open-by}
 use Rattle.archive.specs.Inner.{saysFile}
 use Rattle.answers.proofs.open_file.Statement.{statement}
 use Rattle.answers.proofs.open_file.Tie as tie

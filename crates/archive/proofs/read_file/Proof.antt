@@ -3,7 +3,8 @@ use borrow.Author.Needs.{needs}
 use Rattle.fields.proofs.Laws.{told}
 use Rattle.fields.proofs.Steps.{then-by, steps}
 use Rattle.header.proofs.Laws.{few-grids}
-use Rattle.archive.proofs.Laws.{in-parts, answer-got, answer-fails}
+use Rattle.fields.proofs.Answers.{answer-got, answer-fails}
+use Rattle.archive.proofs.Laws.{in-parts}
 use Rattle.header.specs.Inner.{saysHeader}
 use Rattle.archive.specs.Inner.{saysGrids}
 use Rattle.archive.proofs.read_file.Statement.{statement}

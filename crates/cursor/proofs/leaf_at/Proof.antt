@@ -2,7 +2,7 @@
 use borrow.Author.Needs.{needs}
 use lib.Dec.{lit≤}
 use mathlib.Core.Path.{refl}
-use Rattle.fields.specs.Inner.{saysSpan}
+use Rattle.fields.specs.Says.{saysSpan}
 use Rattle.fields.proofs.Laws.{told}
 use Rattle.nodes.specs.Inner.{saysBlock}
 use Rattle.nodes.proofs.Laws.{whole-mask}

@@ -2,7 +2,7 @@
 use borrow.Author.Needs.{needs}
 use mathlib.Core.Path.{_∙_}
 use native.Mathlib.Omega.{arith}
-use Rattle.fields.specs.Inner.{saysIVec3}
+use Rattle.fields.specs.Says.{saysIVec3}
 use Rattle.fields.proofs.Laws.{told}
 use Rattle.nodes.specs.Inner.{saysNode}
 use Rattle.cursor.proofs.Laws.{roots-end, roots-short, roots-refused, roots-node}

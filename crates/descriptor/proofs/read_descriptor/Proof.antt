@@ -4,7 +4,8 @@ use Rattle.metadata.specs.Inner.{saysMetadata}
 use Rattle.fields.proofs.Steps.{then-by, steps}
 use Rattle.descriptor.specs.Descriptor.{descriptor}
 use Rattle.header.specs.Inner.{saysNumber}
-use Rattle.descriptor.specs.Inner.{saysNames, saysPositions}
+use Rattle.descriptor.specs.Says.{saysNames}
+use Rattle.descriptor.specs.Inner.{saysPositions}
 use Rattle.descriptor.proofs.read_descriptor.Statement.{statement}
 use Rattle.descriptor.proofs.read_descriptor.Tie as tie
 

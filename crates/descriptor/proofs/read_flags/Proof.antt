@@ -1,6 +1,6 @@
 -- Before version 222 nothing is read; from 222 on the flags are read, and then comes check 7.
 use borrow.Author.Needs.{needs}
-use Rattle.fields.specs.Inner.{saysU32}
+use Rattle.fields.specs.Says.{saysU32}
 use Rattle.fields.proofs.Steps.{then-by, steps}
 use Rattle.descriptor.specs.Descriptor.{flagsField}
 use Rattle.descriptor.proofs.read_flags.Statement.{statement}

@@ -1,6 +1,6 @@
 -- Three strings, one after the other; the first that is not whole ends the reading.
 use borrow.Author.Needs.{needs}
-use Rattle.fields.specs.Inner.{saysSpan}
+use Rattle.fields.specs.Says.{saysSpan}
 use Rattle.fields.proofs.Steps.{then-by, steps}
 use Rattle.descriptor.specs.Descriptor.{namesField}
 use Rattle.descriptor.proofs.read_names.Statement.{statement}

@@ -2,7 +2,7 @@
 use borrow.Author.Needs.{needs}
 use mathlib.Core.Path.{ap, _∙_}
 use Rattle.fields.proofs.Laws.{told}
-use Rattle.archive.specs.Answer.{gives}
+use Rattle.fields.specs.Answer.{gives}
 use Rattle.grid.specs.Inner.{saysContent}
 use Rattle.grid.proofs.Laws.{open-refuses, open-gives}
 use Rattle.grid.proofs.open_grid.Statement.{statement}

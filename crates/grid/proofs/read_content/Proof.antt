@@ -2,8 +2,8 @@
 use borrow.Author.Needs.{needs}
 use mathlib.Core.Path.{refl, _∙_, ap}
 use Rattle.fields.proofs.Laws.{then-got, then-fails, told}
-use Rattle.archive.specs.Answer.{answer}
-use Rattle.archive.proofs.Laws.{answer-fails}
+use Rattle.fields.specs.Answer.{answer}
+use Rattle.fields.proofs.Answers.{answer-fails}
 use Rattle.transform.specs.Inner.{saysMap}
 use Rattle.roots.specs.Inner.{saysTreeHead}
 use Rattle.roots.proofs.Laws.{head-inside}

@@ -4,8 +4,8 @@ use borrow.Author.Tests.{eq-eqb, ne-eqb, not-true, not-false}
 use mathlib.Core.Bool.{not}
 use mathlib.Core.Path.{sym, ap, _∙_}
 use Rattle.fields.proofs.Laws.{then-fails, check-passes, check-fails}
-use Rattle.archive.specs.Answer.{answer}
-use Rattle.archive.proofs.Laws.{answer-fails}
+use Rattle.fields.specs.Answer.{answer}
+use Rattle.fields.proofs.Answers.{answer-fails}
 use Rattle.grid.specs.Grid.{gridField}
 use Rattle.grid.specs.Inner.{readGrid}
 use Rattle.grid.proofs.Laws.{grid-parts}

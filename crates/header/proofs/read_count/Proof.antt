@@ -1,6 +1,6 @@
 -- The number is read, and then check 8 says that it is at most 64.
 use borrow.Author.Needs.{needs}
-use Rattle.fields.specs.Inner.{saysU32}
+use Rattle.fields.specs.Says.{saysU32}
 use Rattle.fields.proofs.Steps.{then-by, steps}
 use Rattle.header.specs.Header.{countField}
 use Rattle.header.proofs.read_count.Statement.{statement}

@@ -1,6 +1,6 @@
 -- The file's first eight bytes, the version and the library's two numbers, one after the other; the last call reads the rest.
 use borrow.Author.Needs.{needs}
-use Rattle.fields.specs.Inner.{saysU32}
+use Rattle.fields.specs.Says.{saysU32}
 use Rattle.fields.proofs.Steps.{then-by, steps}
 use Rattle.header.specs.Header.{frontField}
 use Rattle.header.specs.Inner.{saysMagic, saysNumber}

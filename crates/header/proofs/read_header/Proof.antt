@@ -1,6 +1,6 @@
 -- Check 1, then the fields in their order. Of the metadata only the end is used, whatever name is looked for.
 use borrow.Author.Needs.{needs}
-use Rattle.fields.specs.Inner.{saysSpan}
+use Rattle.fields.specs.Says.{saysSpan}
 use Rattle.fields.proofs.Steps.{then-by, steps}
 use Rattle.metadata.proofs.Laws.{metadata-by}
 use Rattle.header.specs.Header.{header}

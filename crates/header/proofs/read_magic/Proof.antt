@@ -1,6 +1,6 @@
 -- Eight bytes are read, and then check 3 compares them.
 use borrow.Author.Needs.{needs}
-use Rattle.fields.specs.Inner.{saysSpan}
+use Rattle.fields.specs.Says.{saysSpan}
 use Rattle.fields.proofs.Steps.{then-by, steps}
 use Rattle.header.specs.Header.{magicField}
 use Rattle.header.proofs.read_magic.Statement.{statement}

@@ -1,6 +1,6 @@
 -- The number is read, and then the two tests are the two ends of check 4's range.
 use borrow.Author.Needs.{needs}
-use Rattle.fields.specs.Inner.{saysU32}
+use Rattle.fields.specs.Says.{saysU32}
 use Rattle.fields.proofs.Steps.{then-by, steps}
 use Rattle.header.proofs.Laws.{ranges}
 use Rattle.header.specs.Header.{versionField}

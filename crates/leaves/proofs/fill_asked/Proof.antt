@@ -3,7 +3,7 @@ use borrow.Author.Needs.{needs}
 use borrow.Author.Tests.{not-true, not-false}
 use mathlib.Core.Path.{_≡_, refl, ap, _∙_}
 use Rattle.fields.proofs.Laws.{told}
-use Rattle.archive.specs.Answer.{gives}
+use Rattle.fields.specs.Answer.{gives}
 use Rattle.grid.specs.Grid.{openGrid}
 use Rattle.grid.specs.Answers.{saysGridAnswer}
 use Rattle.leaves.proofs.Tree.{run-refuses, run-absent, run-gives, run-enough}

@@ -1,6 +1,6 @@
 -- The name, the kind, the length and the value, one after the other; the whole entry ends where the value ends.
 use borrow.Author.Needs.{needs}
-use Rattle.fields.specs.Inner.{saysU32, saysSpan}
+use Rattle.fields.specs.Says.{saysU32, saysSpan}
 use Rattle.fields.proofs.Steps.{then-by, steps}
 use Rattle.metadata.specs.Metadata.{entry}
 use Rattle.metadata.specs.Inner.{saysKind, saysValue}

@@ -1,6 +1,6 @@
 -- The name is read; the kind is that of the bytes which the name stands for.
 use borrow.Author.Needs.{needs}
-use Rattle.fields.specs.Inner.{saysSpan}
+use Rattle.fields.specs.Says.{saysSpan}
 use Rattle.fields.proofs.Steps.{then-by, steps}
 use Rattle.metadata.specs.Metadata.{kindField}
 use Rattle.metadata.proofs.read_kind.Statement.{statement}

@@ -2,7 +2,7 @@
 use borrow.Author.Needs.{needs}
 use Prim.Native.Nat.{_≤_, _-_}
 use mathlib.Core.Path.{_≡_}
-use Rattle.fields.specs.Inner.{saysU32}
+use Rattle.fields.specs.Says.{saysU32}
 use Rattle.fields.proofs.Laws.{then-fails}
 use Rattle.fields.proofs.Steps.{by, via}
 use Rattle.metadata.proofs.Laws.{found as foundFrom, left-more, left-fails, left-none, count-whole}

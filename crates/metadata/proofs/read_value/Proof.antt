@@ -1,6 +1,7 @@
 -- Each kind has a field of its own, which is whole or runs past the end: two ways out for each of the seven.
 use borrow.Author.Needs.{needs}
-use Rattle.fields.specs.Inner.{saysU8, saysU32, saysI32, saysI64, saysIVec3, saysSpan}
+use Rattle.fields.specs.Says.{saysU32, saysIVec3, saysSpan}
+use Rattle.fields.specs.Inner.{saysU8, saysI32, saysI64}
 use Rattle.fields.proofs.Steps.{then-by, steps}
 use Rattle.metadata.proofs.Laws.{of-kind}
 use Rattle.metadata.specs.Metadata.{valueField}

@@ -4,7 +4,7 @@ use borrow.Author.Tests.{not-true, not-false}
 use mathlib.Core.Path.{refl}
 use lib.Dec.{lit≤}
 use Rattle.fields.specs.Parse.{then, check}
-use Rattle.fields.specs.Inner.{saysSpan}
+use Rattle.fields.specs.Says.{saysSpan}
 use Rattle.fields.proofs.Laws.{told}
 use Rattle.fields.proofs.Steps.{steps, then-by}
 use Rattle.nodes.specs.Inner.{blockHead}

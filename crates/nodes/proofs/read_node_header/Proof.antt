@@ -1,7 +1,7 @@
 -- Each way out is the fields and checks up to it, as the calls found them: the two masks, check 18, the values.
 use borrow.Author.Needs.{needs}
 use Rattle.fields.specs.Parse.{then, check}
-use Rattle.fields.specs.Inner.{saysSpan}
+use Rattle.fields.specs.Says.{saysSpan}
 use Rattle.fields.proofs.Laws.{told}
 use Rattle.fields.proofs.Steps.{steps, then-by}
 use Rattle.nodes.specs.Nodes.{nodeField}

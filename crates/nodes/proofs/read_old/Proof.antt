@@ -2,7 +2,7 @@
 use borrow.Author.Needs.{needs}
 use borrow.Author.Tests.{lt-ltb}
 use Rattle.fields.specs.Parse.{then, when, check}
-use Rattle.fields.specs.Inner.{saysIVec3}
+use Rattle.fields.specs.Says.{saysIVec3}
 use Rattle.fields.proofs.Steps.{steps, then-by}
 use Rattle.nodes.specs.Nodes.{oldField}
 use Rattle.nodes.proofs.read_old.Statement.{statement}

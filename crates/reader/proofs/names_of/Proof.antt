@@ -1,6 +1,6 @@
 -- Three strings that were read in a row are joined; the first that is not whole decides.
 use borrow.Author.Needs.{needs}
-use Rattle.fields.specs.Inner.{saysSpan}
+use Rattle.fields.specs.Says.{saysSpan}
 use Rattle.fields.proofs.Steps.{then-by, steps}
 use Rattle.reader.specs.Inner.{inRow}
 use Rattle.reader.proofs.names_of.Statement.{statement}

@@ -5,7 +5,7 @@ use contract.Running.{givenOf, tables, tablesOf}
 use denote.Triple.Spec.{tripleOf}
 use denote.Triple.Table.{entered, cited}
 use Rattle.descriptor.specs.Descriptor.{namesField}
-use Rattle.descriptor.specs.Inner.{saysNames}
+use Rattle.descriptor.specs.Says.{saysNames}
 use Rattle.descriptor.specs.declared.GridNames.{GridNames}
 use Rattle.descriptor.proofs.NamesField as T
 use Rattle.descriptor.proofs.NamesField.Laws as L

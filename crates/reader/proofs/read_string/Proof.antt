@@ -45,7 +45,7 @@ use denote.Triple.Walked.{says, Stays, stay-ref, stay-none, walkOf, goes-ref, go
 use denote.Exit.{yes}
 use Rattle.fields.specs.Parse.{Parse}
 use Rattle.fields.specs.Fields.{bytesField}
-use Rattle.fields.specs.Inner.{saysSpan}
+use Rattle.fields.specs.Says.{saysSpan}
 use Rattle.fields.specs.declared.Span.{Span}
 use Rattle.fields.specs.declared.SpanField.{SpanField}
 use Rattle.fields.proofs.SpanField as S
@@ -53,7 +53,7 @@ use Rattle.fields.proofs.SpanField.Laws as S′
 use Rattle.fields.proofs.read_bytes as core
 use Rattle.fields.proofs.read_bytes.Symbol as core-def
 use Rattle.fields.proofs.read_bytes.Met as core-thm
-use Rattle.reader.specs.Inner.{readerAt, behind}
+use Rattle.reader.specs.Reader.{readerAt, nextAt}
 use Rattle.reader.specs.declared.Reader.{Reader}
 use Rattle.reader.proofs.Reader.Laws as T′
 use Rattle.reader.proofs.after_span.Symbol as after-def
@@ -152,7 +152,7 @@ module _ {M : Type 1} (𝓤 : URA M) (H : Heap 𝓤) (A : Atoms 𝓤) (W : Given
         (and-then ! (load ! (from ! (stop !)) (look ! 15 refl)) (and-then ! (load ! (from ! (stop !)) (look ! 9 refl)) (no-more !))) (λ w.
         use1 W (later (some (λ (n : ℕ). (‵ ftrue ⊛ ‵ (usize .own n (w ∷ []))) ⊛ raw (ensured 𝓤 H A (after-ended string) (after-clauses string 𝓤) tt (f, (h .at, tt)) tt n))))
         (id⊢ 𝓤 _) $ await ! tt $ pick ! (λ n.
-        split ! $ move ! (1 ∷ []) $ use1 W (raw (fact 𝓤 (n ≡ behind (saysSpan f) (h .at)))) (after-said string 𝓤 H A W f (h .at) n) $ heard ! (n ≡ behind (saysSpan f) (h .at)) (λ e′.
+        split ! $ move ! (1 ∷ []) $ use1 W (raw (fact 𝓤 (n ≡ nextAt (saysSpan f) (h .at)))) (after-said string 𝓤 H A W f (h .at) n) $ heard ! (n ≡ nextAt (saysSpan f) (h .at)) (λ e′.
         split ! $ drop ! $ peeks ! usize (Is usize) (shows 𝓤 H A usize) n (w ∷ []) (λ is′.
         land ! (from ! (stop !)) (store ! 11 refl (uint-lawful 𝓤 H A W w64 .typed n _ is′ .0)) $ rewrite ! 11 (λ (z : Val). ‵ (fat fullShare (tyInt w64) l₅ 0 z)) (ap only (is′ .0)) refl $ drop ! $
         assigns ! (of-opd ! (load ! (from ! (stop !)) (look ! 10 refl))) (from ! (hop ! (look ! 18 refl) (fld ! refl (stop !))))

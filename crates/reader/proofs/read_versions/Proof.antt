@@ -4,7 +4,7 @@ use contract.Monad.{factI}
 use contract.Running.{givenOf, tables, tablesOf}
 use denote.Triple.Spec.{tripleOf}
 use denote.Triple.Table.{entered, cited}
-use Rattle.reader.specs.Inner.{versions, versionsField, saysVersions}
+use Rattle.reader.specs.Reader.{versions, versionsField, saysVersions}
 use Rattle.reader.specs.declared.Versions.{Versions}
 use Rattle.reader.proofs.VersionsField as T
 use Rattle.reader.proofs.VersionsField.Laws as L

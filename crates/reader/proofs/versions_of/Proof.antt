@@ -1,6 +1,6 @@
 -- Three numbers that were read in a row are joined; the first that is not whole decides.
 use borrow.Author.Needs.{needs}
-use Rattle.fields.specs.Inner.{saysU32}
+use Rattle.fields.specs.Says.{saysU32}
 use Rattle.fields.proofs.Steps.{then-by, steps}
 use Rattle.reader.specs.Inner.{inRow}
 use Rattle.reader.proofs.versions_of.Statement.{statement}

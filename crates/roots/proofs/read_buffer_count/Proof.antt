@@ -1,6 +1,6 @@
 -- The number is read, and then check 15 says that it is 1.
 use borrow.Author.Needs.{needs}
-use Rattle.fields.specs.Inner.{saysU32}
+use Rattle.fields.specs.Says.{saysU32}
 use Rattle.fields.proofs.Steps.{steps, then-by}
 use Rattle.roots.specs.Roots.{buffersField}
 use Rattle.roots.proofs.read_buffer_count.Statement.{statement}

@@ -1,6 +1,6 @@
 -- The three numbers are read, and then check 17 says that the origin is aligned and new.
 use borrow.Author.Needs.{needs}
-use Rattle.fields.specs.Inner.{saysIVec3}
+use Rattle.fields.specs.Says.{saysIVec3}
 use Rattle.fields.proofs.Steps.{steps, then-by}
 use Rattle.roots.specs.Roots.{originField}
 use Rattle.roots.proofs.Laws.{new-origin, old-origin}

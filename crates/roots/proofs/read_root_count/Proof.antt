@@ -1,6 +1,6 @@
 -- The number is read, and then check 16 compares it with the limit.
 use borrow.Author.Needs.{needs}
-use Rattle.fields.specs.Inner.{saysU32}
+use Rattle.fields.specs.Says.{saysU32}
 use Rattle.fields.proofs.Steps.{steps, then-by}
 use Rattle.roots.specs.Roots.{rootCountField}
 use Rattle.roots.proofs.read_root_count.Statement.{statement}

@@ -1,6 +1,6 @@
 -- Reading so many tiles of 17 bytes is passing their whole length; where there is none, nothing is read.
 use borrow.Author.Needs.{needs}
-use Rattle.fields.specs.Inner.{saysSpan}
+use Rattle.fields.specs.Says.{saysSpan}
 use Rattle.fields.proofs.Steps.{steps, then-by, via}
 use Rattle.roots.proofs.Laws.{no-tiles, tiles-passed}
 use Rattle.roots.proofs.read_tiles.Statement.{statement}

@@ -1,7 +1,7 @@
 -- The fields in their order; each way out is the definition up to the field that fails.
 use borrow.Author.Needs.{needs}
 use mathlib.Core.Path.{refl}
-use Rattle.fields.specs.Inner.{saysU32}
+use Rattle.fields.specs.Says.{saysU32}
 use Rattle.fields.proofs.Laws.{then-got, then-fails, told}
 use Rattle.fields.proofs.Steps.{steps, then-by}
 use Rattle.roots.specs.Roots.{treeHeadField}

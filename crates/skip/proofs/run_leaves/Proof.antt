@@ -6,7 +6,7 @@ use native.Mathlib.Omega.{arith}
 use lib.Dec.{lit≤}
 use Rattle.fields.specs.Parse.{got}
 use Rattle.fields.specs.Fields.{bytesField}
-use Rattle.fields.specs.Inner.{saysSpan}
+use Rattle.fields.specs.Says.{saysSpan}
 use Rattle.fields.proofs.Laws.{told}
 use Rattle.masks.specs.Masks.{maskBit}
 use Rattle.masks.specs.Inner.{nextOne, saysNext}

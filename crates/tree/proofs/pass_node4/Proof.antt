@@ -4,7 +4,7 @@ use Prim.Native.Nat.{_*_}
 use mathlib.Core.Path.{_≡_, refl, _∙_}
 use lib.Dec.{lit≤}
 use Rattle.fields.specs.Fields.{bytesField}
-use Rattle.fields.specs.Inner.{saysSpan}
+use Rattle.fields.specs.Says.{saysSpan}
 use Rattle.fields.proofs.Laws.{then-got, then-fails, told}
 use Rattle.coordinates.specs.declared.GlobalCoord.{GlobalCoord}
 use Rattle.nodes.specs.Inner.{endOf, saysNode}

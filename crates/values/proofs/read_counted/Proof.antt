@@ -1,6 +1,6 @@
 -- Each way out is the fields up to it, as the calls found them: what stands before the run, and the run.
 use borrow.Author.Needs.{needs}
-use Rattle.fields.specs.Inner.{saysSpan}
+use Rattle.fields.specs.Says.{saysSpan}
 use Rattle.fields.proofs.Steps.{steps, then-by}
 use Rattle.values.specs.Values.{valuesField}
 use Rattle.values.specs.Inner.{saysHead}

@@ -1,6 +1,6 @@
 -- Each way out is the fields up to it, as the calls found them: the first value, the second, the selection mask.
 use borrow.Author.Needs.{needs}
-use Rattle.fields.specs.Inner.{saysU32}
+use Rattle.fields.specs.Says.{saysU32}
 use Rattle.fields.proofs.Steps.{steps, then-by}
 use Rattle.values.specs.Values.{inactivesField}
 use Rattle.values.specs.Inner.{saysSelection}

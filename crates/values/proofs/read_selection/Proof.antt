@@ -1,6 +1,6 @@
 -- The mask is carried, or there is none.
 use borrow.Author.Needs.{needs}
-use Rattle.fields.specs.Inner.{saysSpan}
+use Rattle.fields.specs.Says.{saysSpan}
 use Rattle.fields.proofs.Steps.{steps, then-by}
 use Rattle.values.specs.Values.{selectionField}
 use Rattle.values.proofs.read_selection.Statement.{statement}

@@ -1,7 +1,6 @@
 -- An answer to a caller: a value, or the number of the check that refused (section 8).
 use Prim.Native.Nat.{ℕ}
-use mathlib.Core.Option.{Option, none, some}
 use Rattle.fields.specs.Parse.{Parse, got, fails}
 
 pub data Answer (A : Type 0) : Type 0 where
   gives : A → Answer A
@@ -16,8 +15,3 @@ answer (fails k) = refuses k
 unfoldable pub with : {A B : Type 0} → Answer A → (A → Answer B) → Answer B
 with (gives a) f = f a
 with (refuses k) f = refuses k
-
--- check 11: what is asked for is there
-unfoldable pub present : {A : Type 0} → Option A → Answer A
-present (some a) = gives a
-present none = refuses 11
