@@ -33,6 +33,8 @@ CALLS = [
     'vdb::vdb_fill_leaf_named', 'vdb::vdb_fill_leaf_numbered',
     'vdb::vdb_fill_leaves_named', 'vdb::vdb_fill_leaves_numbered',
     'leaves::fill_leaves_named', 'leaves::fill_leaves_numbered',
+    'origins::origins_named', 'origins::origins_numbered',
+    'vdb::vdb_leaf_origins_named', 'vdb::vdb_leaf_origins_numbered',
 ]
 
 # Theorems that a reader is pointed to, by crate and name: of these, the statement is looked at, with the
