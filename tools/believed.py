@@ -33,6 +33,8 @@ CALLS = [
     'vdb::vdb_fill_leaf_named', 'vdb::vdb_fill_leaf_numbered',
     'vdb::vdb_fill_leaves_named', 'vdb::vdb_fill_leaves_numbered',
     'leaves::fill_leaves_named', 'leaves::fill_leaves_numbered',
+    'origins::origins_named', 'origins::origins_numbered',
+    'vdb::vdb_leaf_origins_named', 'vdb::vdb_leaf_origins_numbered',
     'vdb::vdb_layout',
     'reader::new', 'reader::read_u32', 'reader::read_i_vec3', 'reader::read_d_vec3', 'reader::read_string', 'reader::read_name',
     'reader::read_names', 'reader::read_versions',

@@ -1,4 +1,4 @@
-"""Questions to the twelve calls, with the answers of the reader in document.py."""
+"""Questions to the fourteen calls, with the answers of the reader in document.py."""
 import document
 from document import File, Opened, Refused
 from program import Program, changes, in_quotes, spelt, summed
@@ -67,6 +67,11 @@ def after_fill(answer, values, whole):
     return answer + (changes(slots, 0, '%08x') if whole else '') + summed(slots)
 
 
+def after_origins(found):
+    """The origins, and that all other slots are as they were."""
+    return ' f' + ''.join(' | %d %d %d' % tuple(origin) for origin in found) + ' 1'
+
+
 def walked(records, start, slots):
     """What is handed out with so many slots from the place after `start` records, that all is as it should be, and the sum."""
     found = records[start:start + slots]
@@ -126,6 +131,13 @@ class Questions(Program):
 
     def values(self, asked, leaf, slots=512):
         self.fill(asked, leaf, slots, 'values')
+
+    def origins(self, asked, first, *lengths, other=None):
+        try:
+            answer = after_origins(Opened(self.file(), asked).run(first, *lengths))
+        except Refused as refused:
+            answer = ' refused %d 1' % refused.args
+        self.ask(asked_for('Origins' + numbers(first, *lengths), asked), answer, other)
 
     def row(self, word, start, end, call):
         """The refusals of the file cut to each of these lengths."""

@@ -271,6 +271,7 @@ class Opened:
         leaves = [leaf for node in nodes for leaf in node[3]]
         reader = Reader(data, grid.block)
         self.leaves = [block(reader, coding, origin, mask) for origin, mask in leaves]
+        self.origins = [origin for origin, _ in leaves]
         self.records = sum(ones(mask) for _, mask, *_ in self.tree + nodes + leaves)
 
     def fill(self, leaf, slots):
@@ -283,6 +284,12 @@ class Opened:
         count = slots // 512
         check(slots % 512 == 0 and count <= max(len(self.leaves) - first, 0), 21)
         return [leaf.at(place) for leaf in self.leaves[first:first + count] for place in range(512)]
+
+    def run(self, first, *lengths):
+        """The origins of the leaves from a number on: as many as each of the three slices is long, all of which must be there."""
+        count = lengths[0]
+        check(lengths == (count,) * 3 and count <= max(len(self.origins) - first, 0), 21)
+        return self.origins[first:first + count]
 
     def active(self):
         """The active list."""

@@ -170,6 +170,12 @@ def fills(q):
     for first, slots in ((0, 0), (1, 0), (2 ** 64 - 1, 0), (0, 512), (0, 511), (0, 513), (0, 1024), (1, 512), (2 ** 64 - 1, 512)):
         q.fill(b'd', first, slots, 'joined')
         q.fill(0, first, slots, 'joined')
+    q.comment('origins of leaves: one, none, more than there are, slices of different lengths, an absent grid')
+    for first, *lengths in ((0, 1, 1, 1), (2 ** 64 - 1, 0, 0, 0), (1, 1, 1, 1), (0, 2, 2, 2), (0, 1, 0, 1), (0, 1, 1, 0), (0, 0, 1, 1)):
+        q.origins(b'd', first, *lengths)
+        q.origins(0, first, *lengths)
+    q.origins(b'e', 0, 1, 1, 1)
+    q.origins(1, 0, 1, 1, 1)
 
 
 def refused_fills(q):
@@ -177,6 +183,8 @@ def refused_fills(q):
     q.put(9503, b'\x07')
     q.fill(0, 1)
     q.fill(b'd', 0, 511)
+    q.origins(0, 1, 1, 1, 1)
+    q.origins(b'd', 0, 1, 0, 1)
     q.comment('an absent name comes before the type')
     q.put(74, TREE.replace('float', 'int32'))
     q.open(b'e')

@@ -12,6 +12,7 @@ import os
 import archive
 import grid
 import openvdb
+import origins
 import parts
 import transforms
 import walks
@@ -25,6 +26,7 @@ grid.ask(q)
 openvdb.ask(q)
 transforms.ask(q)
 walks.ask(q)
+origins.ask(q)
 q.write(os.path.join(CRATES, 'questions'))
 
 q = Questions()

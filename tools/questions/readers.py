@@ -61,6 +61,11 @@ def leaves(name):
     return {grid: [values for _, values in found] for grid, found in by_openvdb.leaves(printed(name, 'document')).items()}
 
 
+def origins(name):
+    """For each grid's number the origin of each of its leaves."""
+    return {grid: [origin for origin, _ in found] for grid, found in by_openvdb.leaves(printed(name, 'document')).items()}
+
+
 def by_library(name, side, values=False):
     return by_openvdb.text(printed(name, 'txt'), printed(name, side), values, more=True)
 

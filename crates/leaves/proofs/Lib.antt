@@ -1,5 +1,5 @@
-mod Laws
-mod Next
-mod Tree
+pub mod Laws
+pub mod Next
+pub mod Tree
 pub mod Each
 pub mod Agree

@@ -1,12 +1,12 @@
--- The leaves that a cursor hands out from the start on are the tree's; a fill is a run of these.
+-- The leaves that a cursor hands out from the start on are the tree's; a run of these is what a fill, and any call that lays out leaves, answers.
 use mathlib.Core.Path.{_≡_, refl, sym, ap, subst, _∙_}
 use mathlib.Core.List.{List, [], _∷_, _++_, map, map-append, append-nil, flatMap}
 use mathlib.Core.Bool.{Bool, true, false, _&&_}
 use mathlib.Core.Option.{Option, none, some}
-use Prim.Native.Nat.{ℕ, zero, suc, _-_, _/_, _%_, _≤_}
+use Prim.Native.Nat.{ℕ, zero, suc, _-_, _/_, _%_}
 use native.Mathlib.Omega.{arith}
 use lib.Dec.{eqb, leb}
-use lib.ListN.{length, take, drop, getElem?}
+use lib.ListN.{length, take, drop, getElem?, length-map}
 use borrow.Author.Tests.{le-leb, lt-leb, leb-true, eqb-true}
 use Rattle.fields.specs.Parse.{when}
 use Rattle.fields.proofs.Laws.{when-true, when-false}
@@ -14,7 +14,6 @@ use Rattle.fields.specs.Answer.{Answer, gives, refuses, with}
 use Rattle.archive.specs.declared.Asked.{Asked}
 use Rattle.fields.proofs.Answers.{with-gives, with-back, gives-same}
 use Rattle.coordinates.proofs.Axis.{and-both}
-use Rattle.half.specs.Inner.{isWidth}
 use Rattle.values.specs.Values.{leafValues}
 use Rattle.values.specs.declared.Coding.{Coding}
 use Rattle.nodes.specs.declared.Block.{Block}
@@ -28,7 +27,7 @@ use Rattle.grid.specs.Inner.{contentOf, openedBy}
 use Rattle.grid.proofs.Laws.{opened-so}
 use Rattle.grid.proofs.Coverage.{GridRead, grid-read}
 use Rattle.leaves.specs.Leaves.{leafNumbered, presentLeaf, fillLeaf, runValues, fillLeaves}
-use Rattle.leaves.specs.Inner.{rightSlots, startCursor, leavesAmong, leavesFrom, valuesOf, Enough}
+use Rattle.leaves.specs.Inner.{rightSlots, startCursor, leavesAmong, leavesFrom, fromLeaves, valuesIn, HasLeaves}
 
 -- the leaves among pieces
 abbrev leavesOf : List Piece → List Piece
@@ -70,22 +69,18 @@ of-tree filled =
     of-flatMap pieces5 (λ f. flatMap (λ g. g .blocks) (f .nodes)) (λ (f : Filled5). with-node (flatMap pieces4 (f .nodes)) (piece5 (f .node)) (flatMap (λ g. g .blocks) (f .nodes)) refl
     (of-flatMap pieces4 (λ g. g .blocks) (λ (g : Filled4). with-node (map leafPiece (g .blocks)) (piece4 (g .node)) (g .blocks) refl (of-leaves (g .blocks))) (f .nodes))) filled
 
--- their values, and that these lie in the file
-of-values :
-    (s : List ℕ) (c : Coding) (bs : List Block) (first n : ℕ) →
-    valuesOf s c (map leafPiece bs) first n ≡ flatMap (λ b. leafValues s c (b .mask) (b .values)) (take n (drop first bs))
+-- what n of them give, but for the first ones
+of-run :
+    {A : Type 0} (f : Piece → List A) (bs : List Block) (first n : ℕ) →
+    fromLeaves f (map leafPiece bs) first n ≡ flatMap (λ b. f (leafPiece b)) (take n (drop first bs))
 unfolding flatMap
-of-values s c [] zero zero = refl
-of-values s c [] zero (suc n) = refl
-of-values s c [] (suc k) zero = refl
-of-values s c [] (suc k) (suc n) = refl
-of-values s c (b ∷ bs) zero zero = refl
-of-values s c (b ∷ bs) zero (suc n) = ap (λ (x : List ℕ). leafValues s c (b .mask) (b .values) ++ x) (of-values s c bs zero n)
-of-values s c (b ∷ bs) (suc k) n = of-values s c bs k n
-
-map-length : (bs : List Block) → length (map leafPiece bs) ≡ length bs
-map-length [] = refl
-map-length (b ∷ bs) = ap suc (map-length bs)
+of-run f [] zero zero = refl
+of-run f [] zero (suc n) = refl
+of-run f [] (suc k) zero = refl
+of-run f [] (suc k) (suc n) = refl
+of-run f (b ∷ bs) zero zero = refl
+of-run f (b ∷ bs) zero (suc n) = ap (λ (x : List _). f (leafPiece b) ++ x) (of-run f bs zero n)
+of-run f (b ∷ bs) (suc k) n = of-run f bs k n
 
 -- the leaves of an opened grid, from its start on
 of-grid : (s : List ℕ) (g : Grid) → GridRead s g → leavesFrom s (g .coding) (startCursor (startOf s g)) ≡ map leafPiece (allBlocks (g .filled))
@@ -109,19 +104,69 @@ unfolding presentLeaf with
 no-leaf none = refl
 no-leaf (some b) = refl
 
--- what is asked for: a leaf, or a run of leaves
+-- What a run of leaves answers: over the grid that is asked for, check 21, and then what n of its leaves give, but for the first ones, in the form w.
+abbrev pub running : {A B : Type 0} → List ℕ → Asked → List ℕ → Bool → ℕ → ℕ → (Coding → Piece → List A) → (List A → B) → Answer B
+running s asked name right first n f w =
+    with (grid s asked name) λ g.
+    when (right && leb n (length (allBlocks (g .filled)) - first)) (gives (w (flatMap (λ b. f (g .coding) (leafPiece b)) (take n (drop first (allBlocks (g .filled))))))) (refuses 21)
+
+pub record Runs {A B : Type 0} (s : List ℕ) (asked : Asked) (name : List ℕ) (right : Bool) (first n : ℕ) (f : Coding → Piece → List A) (w : List A → B) (m : Answer B) : Type 0 where
+  pub is : m ≡ running s asked name right first n f w
+
+-- Its ways out.
+module _
+    {A B : Type 0} {s : List ℕ} {asked : Asked} {name : List ℕ} {right : Bool} {first n : ℕ} {f : Coding → Piece → List A} {w : List A → B} {m : Answer B}
+    (r : Runs s asked name right first n f w m)
+  where
+    pub run-refuses : (k : ℕ) → refuses k ≡ openGrid s asked name → refuses k ≡ m
+    unfolding openGrid with
+    run-refuses k e = go (grid s asked name) _ e ∙ sym (r .is)
+      where
+        go : (m : Answer Grid) (h : Grid → Answer B) → refuses k ≡ with m (λ g. gives (openedOf s g)) → refuses k ≡ with m h
+        go (gives g) h e = cc
+        go (refuses j) h e = cc
+
+    module _ {o : OpenedGrid} (e : gives o ≡ openGrid s asked name) {t : Bool} (l : t ≡ (right && leb n (o .«leaf_count» - first))) where
+      seen : (g : Grid) × (gives g ≡ grid s asked name) × (o ≡ openedBy (contentOf s g))
+      unfolding openGrid
+      seen = let y = with-back (grid s asked name) _ e in (y .0, y .1, gives-same (y .2) ∙ opened-so s (y .0))
+
+      abbrev read : GridRead s (seen .0)
+      read = grid-read s asked name (seen .1)
+
+      counted : t ≡ (right && leb n (length (allBlocks (seen .0 .filled)) - first))
+      counted = l ∙ ap (λ (o : OpenedGrid). right && leb n (o .«leaf_count» - first)) (seen .2)
+
+      pub run-absent : t ≡ false → refuses 21 ≡ m
+      run-absent x = with-gives _ (seen .1) (when-false _ (sym x ∙ counted) refl) ∙ sym (r .is)
+
+      -- what these leaves give from the start on
+      abbrev givenBy : OpenedGrid → B
+      givenBy o = w (fromLeaves (f (o .place .start .coding)) (leavesFrom s (o .place .start .coding) (startCursor (o .place .start))) first n)
+
+      pub run-gives : t ≡ true → gives (givenBy o) ≡ m
+      run-gives x =
+          with-gives _ (seen .1) (when-true _ (sym x ∙ counted)
+          (ap (λ (o : OpenedGrid). gives (givenBy o)) (seen .2)
+          ∙ ap (λ (v : List A). gives (w v)) (ap (λ (l : List Piece). fromLeaves (f (seen .0 .coding)) l first n) (of-grid s (seen .0) read)
+          ∙ of-run (f (seen .0 .coding)) (allBlocks (seen .0 .filled)) first n))) ∙ sym (r .is)
+
+      -- and what was tested: what is lent is right, and the leaves are there
+      pub run-enough : t ≡ true → (right ≡ true) × HasLeaves s (o .place .start) first n
+      run-enough x =
+          let b = and-both _ _ (sym counted ∙ x) in
+          let k : length (leavesFrom s (seen .0 .coding) (startCursor (startOf s (seen .0)))) ≡ length (allBlocks (seen .0 .filled)) = ap length (of-grid s (seen .0) read) ∙ length-map (allBlocks (seen .0 .filled)) leafPiece in
+          (b .0, subst (λ (o : OpenedGrid). HasLeaves s (o .place .start) first n) (sym (seen .2)) (record { width = read .width; few = read .few; there = rw k (leb-true _ _ (b .1)) }))
+
+-- what is asked for of a fill: a leaf, or a run of leaves
 abbrev pub filling : List ℕ → Asked → List ℕ → Bool → ℕ → ℕ → Answer (List ℕ)
 filling s asked name single first slots = when single (fillLeaf s asked name first slots) (fillLeaves s asked name first slots)
 
--- The ways out of a fill.
+-- Each is a run.
 module _ (s : List ℕ) (asked : Asked) (name : List ℕ) (single : Bool) (first slots : ℕ) where
-  -- of this grid
-  abbrev runOf : Grid → Answer (List ℕ)
-  runOf g = when (rightSlots single slots && leb (slots / 512) (length (allBlocks (g .filled)) - first)) (gives (runValues s g first (slots / 512))) (refuses 21)
-
-  run-is : filling s asked name single first slots ≡ with (grid s asked name) runOf
+  pub fill-runs : Runs s asked name (rightSlots single slots) first (slots / 512) (valuesIn s) (λ v. v) (filling s asked name single first slots)
   unfolding fillLeaf fillLeaves when
-  run-is = go single
+  fill-runs = record { is = go single }
     where
       one : (g : Grid) (t : Bool) → eqb slots 512 ≡ t →
           with (presentLeaf (leafNumbered first (g .filled))) (λ b. when t (gives (leafValues s (g .coding) (b .mask) (b .values))) (refuses 21))
@@ -134,52 +179,8 @@ module _ (s : List ℕ) (asked : Asked) (name : List ℕ) (single : Bool) (first
       go true = ap (with (grid s asked name)) (λ i g. one g (eqb slots 512) refl i)
       go false = refl
 
-  pub run-refuses : (k : ℕ) → refuses k ≡ openGrid s asked name → refuses k ≡ filling s asked name single first slots
-  unfolding openGrid with
-  run-refuses k e = go (grid s asked name) e ∙ sym run-is
-    where
-      go : (m : Answer Grid) → refuses k ≡ with m (λ g. gives (openedOf s g)) → refuses k ≡ with m runOf
-      go (gives g) e = cc
-      go (refuses j) e = cc
-
-  module _ (o : OpenedGrid) (e : gives o ≡ openGrid s asked name) (t : Bool) (l : t ≡ (rightSlots single slots && leb (slots / 512) (o .«leaf_count» - first))) where
-    seen : (g : Grid) × (gives g ≡ grid s asked name) × (o ≡ openedBy (contentOf s g))
-    unfolding openGrid
-    seen = let y = with-back (grid s asked name) _ e in (y .0, y .1, gives-same (y .2) ∙ opened-so s (y .0))
-
-    abbrev read : GridRead s (seen .0)
-    read = grid-read s asked name (seen .1)
-
-    counted : t ≡ (rightSlots single slots && leb (slots / 512) (length (allBlocks (seen .0 .filled)) - first))
-    counted = l ∙ ap (λ (o : OpenedGrid). rightSlots single slots && leb (slots / 512) (o .«leaf_count» - first)) (seen .2)
-
-    pub run-absent : t ≡ false → refuses 21 ≡ filling s asked name single first slots
-    run-absent x = with-gives _ (seen .1) (when-false _ (sym x ∙ counted) refl) ∙ sym run-is
-
-    -- the values of this many leaves from the start on
-    abbrev valuesBy : OpenedGrid → List ℕ
-    valuesBy o = valuesOf s (o .place .start .coding) (leavesFrom s (o .place .start .coding) (startCursor (o .place .start))) first (slots / 512)
-
-    pub run-gives : t ≡ true → gives (valuesBy o) ≡ filling s asked name single first slots
-    run-gives x =
-        with-gives _ (seen .1) (when-true _ (sym x ∙ counted)
-        (ap (λ (o : OpenedGrid). gives (valuesBy o)) (seen .2)
-        ∙ ap gives (ap (λ (l : List Piece). valuesOf s (seen .0 .coding) l first (slots / 512)) (of-grid s (seen .0) read)
-        ∙ of-values s (seen .0 .coding) (allBlocks (seen .0 .filled)) first (slots / 512)))) ∙ sym run-is
-
-    -- what filling them asks of an opened grid
-    abbrev Fillable : OpenedGrid → Type 0
-    Fillable o =
-        isWidth (o .place .start .coding .width) × (o .place .start .«root_count» ≤ 256)
-        × Enough (leavesFrom s (o .place .start .coding) (startCursor (o .place .start))) first slots
-
-    whole-slots : (b : Bool) → rightSlots b slots ≡ true → slots % 512 ≡ 0
-    unfolding when
-    whole-slots true h = let x = eqb-true slots 512 h in omega arith
-    whole-slots false h = eqb-true (slots % 512) 0 h
-
-    pub run-enough : t ≡ true → Fillable o
-    run-enough x =
-        let b = and-both _ _ (sym counted ∙ x) in
-        let n : length (leavesFrom s (seen .0 .coding) (startCursor (startOf s (seen .0)))) ≡ length (allBlocks (seen .0 .filled)) = ap length (of-grid s (seen .0) read) ∙ map-length (allBlocks (seen .0 .filled)) in
-        subst Fillable (sym (seen .2)) (read .width, read .few, record { whole = whole-slots single (b .0); there = rw n (leb-true _ _ (b .1)) })
+-- the slots of both are those of whole leaves
+pub whole-slots : (single : Bool) (slots : ℕ) → rightSlots single slots ≡ true → slots % 512 ≡ 0
+unfolding when
+whole-slots true slots h = let x = eqb-true slots 512 h in omega arith
+whole-slots false slots h = eqb-true (slots % 512) 0 h

@@ -1,14 +1,13 @@
 // Sections 6 and 8 of document 01: the values of a leaf, and those of a run of leaves with one opening of the grid.
 ghost use mathlib.Core.Path.{_≡_};
 ghost use mathlib.Core.Bool.{_&&_};
-ghost use Prim.Native.Nat.{_-_, _/_, _≤_};
+ghost use Prim.Native.Nat.{_-_, _/_, _%_};
 ghost use lib.Dec.{leb};
 ghost use lib.ListN.{length};
 ghost use Rattle.fields.specs.Parse.{when};
-ghost use Rattle.half.specs.Inner.{isWidth};
 ghost use Rattle.leaves.specs.Leaves.{fillLeaf, fillLeafNamed, fillLeafNumbered, fillLeaves, fillLeavesNamed, fillLeavesNumbered};
 ghost use Rattle.leaves.specs.Answers.{saysFill, keptBy};
-ghost use Rattle.leaves.specs.Inner.{startCursor, leavesFrom, valuesOf, Enough, rightSlots};
+ghost use Rattle.leaves.specs.Inner.{startCursor, leavesFrom, valuesOf, HasLeaves, rightSlots};
 use archive::Asked;
 use grid::GridAnswer;
 use place::Start;
@@ -22,7 +21,7 @@ pub enum FillAnswer {
 // Fills the slots with the values of the leaves that a cursor hands out, but for the first ones. No tree has as many records as may be passed between two
 // leaves, so that only a leaf ends a pass.
 fn fill_run(s: &[u8], start: Start, first: u64, slots: &mut [u32])
-    requires { ⌜ isWidth (start .coding .width) × (start .«root_count» ≤ 256) × Enough (leavesFrom (now s) (start .coding) (startCursor start)) first (length (now slots)) ⌝ }
+    requires { ⌜ HasLeaves (now s) start first (length (now slots) / 512) × (length (now slots) % 512 ≡ 0) ⌝ }
     ensures { λ _. ⌜ now (slots .exit) ≡ valuesOf (now (s .entry)) (start .coding) (leavesFrom (now (s .entry)) (start .coding) (startCursor start)) first (length (now (slots .entry)) / 512) ⌝ }
 {
     let c = start.coding;
@@ -57,7 +56,7 @@ fn right_slots(single: bool, n: usize) -> bool
 }
 
 // Whether there are n of `count` leaves from one on.
-fn has_run(count: u64, first: u64, n: usize) -> bool
+pub fn has_run(count: u64, first: u64, n: usize) -> bool
     ensures { λ r. ⌜ r ≡ leb n (count - first) ⌝ }
 {
     if count < first {

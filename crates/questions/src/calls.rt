@@ -1,4 +1,4 @@
-// The questions to the twelve calls:
+// The questions to the fourteen calls, but those for origins, which stand in corners.rt:
 //
 //     header                                                 the file
 //     descriptor N, descriptor: NAME                         the descriptor of a grid
@@ -13,6 +13,7 @@
 // and to the layer of the transforms, whose map is shown as that of a grid:
 //
 //     Transform AT
+use crate::corners;
 use crate::series;
 use answers::DescriptorAnswer;
 use answers::EntryAnswer;
@@ -322,6 +323,7 @@ fn ask_command(command: u8, words: usize, s: &[u8], grid: &[u8], name: &[u8], n:
         b'd' | b'm' | b'o' => ask_grid(command, words, s, low(n[1]), grid, name),
         b'f' | b'v' | b'j' => ask_fill(command, words, s, name, n),
         b'c' | b't' => ask_row(command, s, n),
+        b'O' => corners::ask(words, s, name, n),
         b'T' => transform(s, n[1] as usize),
         _ => {}
     }

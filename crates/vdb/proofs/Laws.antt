@@ -96,8 +96,8 @@ module _ {s : List ℕ} {m : Answer OpenedGrid} (out place : List ℕ) {a : Grid
     stands = λ v w. let u : g ≡ v = cc (ap saysGridAnswer x) in (z .1 .0, z .1 .1 ∙ ap (λ (g : OpenedGrid). g .place) u);
   }
 
--- a fill, by its answer a
-module _ {m : Answer (List ℕ)} (before after : List ℕ) {a : FillAnswer} (h : (saysFill a after ≡ m) × keptBy a before after) where
+-- a fill, or another call with such an answer a
+module _ {A : Type 0} {m : Answer A} (before after : A) {a : FillAnswer} (h : (saysFill a after ≡ m) × keptBy a before after) where
   pub fill-refused : {k : ℕ} → a ≡ FillRefused k → (k, after) ≡ laid m (λ values. values) before
   unfolding laid
   fill-refused {k} x =

@@ -41,6 +41,7 @@ use Rattle.tree.specs.Blocks.{filled4, filled5, blocksField}
 use Rattle.grid.specs.Grid.{codingOf, rootLimit, contentField, gridField, grid, openGrid}
 use Rattle.grid.specs.declared.OpenedGrid.{OpenedGrid}
 use Rattle.leaves.specs.Leaves.{leafNumbered, presentLeaf, fillLeaf, fillLeaves}
+use Rattle.origins.specs.Origins.{Axes, leafOrigins}
 use Rattle.slots.specs.Slots.{Slots}
 use Rattle.walk.specs.Walk.{saysWalk}
 use Rattle.walk.specs.declared.Walked.{Walked}
@@ -375,10 +376,11 @@ pub data Question (s : List ℕ) : (A : Type 0) → Answer A → Type 1 where
   open-grid : (asked : Asked) (name : List ℕ) → Question s OpenedGrid (openGrid s asked name)
   fill-leaf : (asked : Asked) (name : List ℕ) (number slots : ℕ) → Question s (List ℕ) (fillLeaf s asked name number slots)
   fill-leaves : (asked : Asked) (name : List ℕ) (first slots : ℕ) → Question s (List ℕ) (fillLeaves s asked name first slots)
+  leaf-origins : (asked : Asked) (name : List ℕ) (first nx ny nz : ℕ) → Question s Axes (leafOrigins s asked name first nx ny nz)
 
 -- A refusal of any of them has a number from 1 to 22.
 pub numbered : {s : List ℕ} {A : Type 0} {m : Answer A} → Question s A m → Answers m
-unfolding fileEntry gridEntry openGrid fillLeaf fillLeaves
+unfolding fileEntry gridEntry openGrid fillLeaf fillLeaves leafOrigins
 numbered {s} open-file = open-file-n s
 numbered {s} (the-grid asked name) = asked-n s asked name
 numbered {s} (file-entry name) = with-n _ _ (open-file-n s) λ h. entry-at-n s name (h .«meta_pos»)
@@ -387,6 +389,7 @@ numbered {s} (open-grid asked name) = with-n _ _ (grid-n s asked name) λ g. tt
 numbered {s} (fill-leaf asked name number slots) =
     with-n _ _ (grid-n s asked name) λ g. with-n _ _ (leaf-there-n (leafNumbered number (g .filled))) λ b. either-n _ _ _ tt refl
 numbered {s} (fill-leaves asked name first slots) = with-n _ _ (grid-n s asked name) λ g. either-n _ _ _ tt refl
+numbered {s} (leaf-origins asked name first nx ny nz) = with-n _ _ (grid-n s asked name) λ g. either-n _ _ _ tt refl
 
 -- ---- What a caller sees is enough.
 -- So a call that returns 0 was not refused: it gave an answer, whose words stand in what was lent.

@@ -6,6 +6,7 @@ ghost use lib.ListN.{length};
 ghost use Rattle.archive.specs.Archive.{openFile, gridNamed, gridNumbered, fileEntry, gridEntryNamed, gridEntryNumbered};
 ghost use Rattle.grid.specs.Grid.{openGridNamed, openGridNumbered};
 ghost use Rattle.leaves.specs.Leaves.{fillLeafNamed, fillLeafNumbered, fillLeavesNamed, fillLeavesNumbered};
+ghost use Rattle.origins.specs.Origins.{axes, leafOriginsNamed, leafOriginsNumbered};
 ghost use Rattle.slots.specs.Slots.{slotsOf};
 ghost use Rattle.words.specs.Words.{layout};
 ghost use Rattle.outward.specs.Outward.{headerWords, descriptorWords, entryWords};
@@ -224,6 +225,42 @@ pub extern "C" fn vdb_fill_leaves_numbered(s: &[u8], n: u32, first: u64, slots: 
     ensures { λ r. ⌜ (r, now (slots .exit)) ≡ laid (fillLeavesNumbered (now (s .entry)) n first (length (now (slots .entry)))) (λ values. values) (now (slots .entry)) ⌝ }
 {
     match leaves::fill_leaves_numbered(s, n, first, slots) {
+        FillAnswer::Refused(k) => k,
+        FillAnswer::Filled => 0,
+    }
+}
+
+// Writes the origins of the leaves from a number on, into three slices of one length, of the grid of this name.
+#[no_mangle]
+pub extern "C" fn vdb_leaf_origins_named(
+    s: &[u8],
+    name: &[u8],
+    first: u64,
+    x: &mut [i32],
+    y: &mut [i32],
+    z: &mut [i32],
+) -> u32
+    ensures { λ r. ⌜ (r, axes (now (x .exit)) (now (y .exit)) (now (z .exit))) ≡ laid (leafOriginsNamed (now (s .entry)) (now (name .entry)) first (length (now (x .entry))) (length (now (y .entry))) (length (now (z .entry)))) (λ origins. origins) (axes (now (x .entry)) (now (y .entry)) (now (z .entry))) ⌝ }
+{
+    match origins::origins_named(s, name, first, x, y, z) {
+        FillAnswer::Refused(k) => k,
+        FillAnswer::Filled => 0,
+    }
+}
+
+// The same for the grid with this number, from 0.
+#[no_mangle]
+pub extern "C" fn vdb_leaf_origins_numbered(
+    s: &[u8],
+    n: u32,
+    first: u64,
+    x: &mut [i32],
+    y: &mut [i32],
+    z: &mut [i32],
+) -> u32
+    ensures { λ r. ⌜ (r, axes (now (x .exit)) (now (y .exit)) (now (z .exit))) ≡ laid (leafOriginsNumbered (now (s .entry)) n first (length (now (x .entry))) (length (now (y .entry))) (length (now (z .entry)))) (λ origins. origins) (axes (now (x .entry)) (now (y .entry)) (now (z .entry))) ⌝ }
+{
+    match origins::origins_numbered(s, n, first, x, y, z) {
         FillAnswer::Refused(k) => k,
         FillAnswer::Filled => 0,
     }

@@ -1,0 +1,15 @@
+-- The answer is laid out as a fill's is.
+use borrow.Author.Needs.{needs}
+use Rattle.vdb.proofs.Laws.{fill-refused, fill-filled}
+use Rattle.vdb.proofs.vdb_leaf_origins_numbered.Statement.{statement}
+use Rattle.vdb.proofs.vdb_leaf_origins_numbered.Tie as tie
+
+pub vdb-leaf-origins-numbered-spec : {M : Type 1} → statement M
+vdb-leaf-origins-numbered-spec =
+    tie.close
+    (tie.spec
+    (λ c κs. search needs) (λ c. search needs) (λ c. search needs)
+    (λ c. search needs) (λ c. search needs) (λ c. search needs)
+    (λ c. fill-refused _ _ (c .before .before .before .before .before .before .origins-numbered .ensures) (c .before .k .given .1))
+    (λ c. search needs) (λ c. search needs) (λ c. search needs)
+    (λ c. fill-filled _ _ (c .before .before .before .before .before .origins-numbered .ensures) (c .enum-told .given .1)))
