@@ -46,11 +46,6 @@ def record_line(corner, level, pattern, more=False):
     return 'record %d %d %d %08x %08x %08x %d %08x' % (*(corner if more else rounded), *patterns, level, pattern)
 
 
-def without_origins(text):
-    """The text as a reader has it that tells no leaf's origin."""
-    return re.sub(r'^leaf (\d+) \S+ \S+ \S+', r'leaf \1 - - -', text, flags=re.MULTILINE)
-
-
 def shortened(text):
     """The text with one line `digest` in place of the records of a grid with many: SHA-256 over the lines' ends, from BX on."""
     def digested(match):

@@ -164,6 +164,16 @@ uint32_t vdb_fill_leaves_named(const uint8_t *file, size_t file_len, const uint8
 uint32_t vdb_fill_leaves_numbered(const uint8_t *file, size_t file_len, uint32_t n, uint64_t first, uint32_t *slots, size_t slots_len);
 
 /*
+ * Where these leaves lie: the origins, lowest voxels, of the leaves from number `first` on, as many as the three slices are long; leaf `first` + i has
+ * its origin in x[i], y[i] and z[i]. The grid is opened once. 21: the slices have different lengths, or one of these leaves is not there; then no slot is
+ * changed.
+ */
+uint32_t vdb_leaf_origins_named(const uint8_t *file, size_t file_len, const uint8_t *name, size_t name_len, uint64_t first, int32_t *x, size_t x_len,
+                                int32_t *y, size_t y_len, int32_t *z, size_t z_len);
+uint32_t vdb_leaf_origins_numbered(const uint8_t *file, size_t file_len, uint32_t n, uint64_t first, int32_t *x, size_t x_len, int32_t *y, size_t y_len,
+                                   int32_t *z, size_t z_len);
+
+/*
  * The checks, in the order of their numbers: 1 over 2,147,483,647 bytes; 2 a field past the end; 3 magic; 4 version; 5 offsets byte; 6 packed grid;
  * 7 flags above 7; 8 over 64 grids; 9 a position past the end; 10 repeated grid name; 11 no such grid or entry; 12 grid type; 13 parent; 14 map name;
  * 15 tree buffer count; 16 over 256 roots; 17 root origin; 18 child and value bit at one place; 19 node byte; 20 leaf block; 21 no such leaf, or

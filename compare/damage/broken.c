@@ -6,12 +6,14 @@
 
 #include "vdb.h"
 
+#define ORIGINS const uint8_t *file, size_t file_len, uint32_t n, uint64_t first, int32_t *x, size_t x_len, int32_t *y, size_t y_len, int32_t *z, size_t z_len
 #define WALK const uint8_t *file, size_t file_len, uint64_t place[VDB_PLACE_WORDS], int32_t *x, size_t x_len, int32_t *y, size_t y_len, int32_t *z, \
     size_t z_len, uint32_t *level, size_t level_len, uint32_t *value, size_t value_len, uint64_t counts[VDB_WALK_COUNTS]
 
 uint32_t __real_vdb_open_file(const uint8_t *file, size_t file_len, uint64_t *out);
 uint32_t __real_vdb_fill_leaf_numbered(const uint8_t *file, size_t file_len, uint32_t n, uint64_t leaf, uint32_t *slots, size_t slots_len);
 uint32_t __real_vdb_walk(WALK);
+uint32_t __real_vdb_leaf_origins_numbered(ORIGINS);
 
 static int broken(int number)
 {
@@ -53,5 +55,13 @@ uint32_t __wrap_vdb_walk(WALK)
     if (broken(11) && k == 0 && counts[VDB_FILLED] == 1) z[0] ^= 1;                       /* with one slot another record */
     if (broken(12) && k == 22) place[0]++;                                                /* a refusal changes the place */
     if (broken(13) && k == 0 && x_len > 0) x[-1] = x[0];                                  /* writes before the slots */
+    return k;
+}
+
+uint32_t __wrap_vdb_leaf_origins_numbered(ORIGINS)
+{
+    uint32_t k = __real_vdb_leaf_origins_numbered(file, file_len, n, first, x, x_len, y, y_len, z, z_len);
+    if (broken(15) && k == 0 && y_len > 0) y[y_len - 1] += 8; /* by number another origin than by name */
+    if (broken(16) && k == 21 && z_len > 0) z[0] = 0;         /* a refusal changes a slot */
     return k;
 }

@@ -272,6 +272,25 @@ static void runs(uint32_t n, const uint8_t *name, size_t name_len, uint64_t leav
     HOLD(answer(vdb_fill_leaves_numbered(file, file_len, n, (uint64_t)-1 >> below(16), slots, 512 * 3)) == 21);
 }
 
+/* Where a run of leaves lies: the same by name and by number; no leaf behind the last, and slices of one length only. */
+static void origins(uint32_t n, const uint8_t *name, size_t name_len, uint64_t leaves)
+{
+    enum { MOST = 20 };
+    uint64_t first = below(leaves), run = below((leaves - first < MOST ? leaves - first : MOST) + 1);
+    int32_t kept[3][MOST], *x = lend_anew(4 * run), *y = lend(4 * run), *z = lend(4 * run);
+    HOLD(answer(vdb_leaf_origins_named(file, file_len, name, name_len, first, x, run, y, run, z, run)) == 0);
+    memcpy(kept[0], x, 4 * run), memcpy(kept[1], y, 4 * run), memcpy(kept[2], z, 4 * run);
+    for (uint64_t i = 0; i < run; i++) HOLD(x[i] % 8 == 0 && y[i] % 8 == 0 && z[i] % 8 == 0);
+    x = lend_anew(4 * run), y = lend(4 * run), z = lend(4 * run);
+    HOLD(answer(vdb_leaf_origins_numbered(file, file_len, n, first, x, run, y, run, z, run)) == 0);
+    HOLD(memcmp(kept[0], x, 4 * run) == 0 && memcmp(kept[1], y, 4 * run) == 0 && memcmp(kept[2], z, 4 * run) == 0);
+    x = lend_anew(4 * run), y = lend(4 * run + 4), z = lend(4 * run);
+    HOLD(answer(vdb_leaf_origins_numbered(file, file_len, n, first, x, run, y, run + 1, z, run)) == 21);
+    x = lend_anew(12), y = lend(12), z = lend(12);
+    HOLD(answer(vdb_leaf_origins_named(file, file_len, name, name_len, leaves - below(3), x, 3, y, 3, z, 3)) == 21);
+    HOLD(answer(vdb_leaf_origins_numbered(file, file_len, n, (uint64_t)-1 >> below(16), x, 3, y, 3, z, 3)) == 21);
+}
+
 static void fills(uint32_t n, const uint8_t *name, size_t name_len, uint64_t leaves)
 {
     static const size_t other[] = {0, 1, 511, 513, 1024};
@@ -286,6 +305,7 @@ static void fills(uint32_t n, const uint8_t *name, size_t name_len, uint64_t lea
     HOLD(answer(vdb_fill_leaf_numbered(file, file_len, n, leaf, lend_anew(2048), 512)) == 0);
     HOLD(memcmp(first, lent_end[0] - 2048, 2048) == 0);
     runs(n, name, name_len, leaves);
+    origins(n, name, name_len, leaves);
 }
 
 /* The same answer by name and by number. */

@@ -6,6 +6,7 @@
 
 #include "vdb.h"
 
+#define ORIGINS const uint8_t *file, size_t file_len, uint32_t n, uint64_t first, int32_t *x, size_t x_len, int32_t *y, size_t y_len, int32_t *z, size_t z_len
 #define WALK const uint8_t *file, size_t file_len, uint64_t place[VDB_PLACE_WORDS], int32_t *x, size_t x_len, int32_t *y, size_t y_len, int32_t *z, \
     size_t z_len, uint32_t *level, size_t level_len, uint32_t *value, size_t value_len, uint64_t counts[VDB_WALK_COUNTS]
 
@@ -18,6 +19,7 @@ uint32_t __real_vdb_grid_entry_named(const uint8_t *file, size_t file_len, const
 uint32_t __real_vdb_open_grid_numbered(const uint8_t *file, size_t file_len, uint32_t n, uint64_t *out, uint64_t *place);
 uint32_t __real_vdb_open_grid_named(const uint8_t *file, size_t file_len, const uint8_t *name, size_t name_len, uint64_t *out, uint64_t *place);
 uint32_t __real_vdb_fill_leaves_numbered(const uint8_t *file, size_t file_len, uint32_t n, uint64_t first, uint32_t *slots, size_t slots_len);
+uint32_t __real_vdb_leaf_origins_numbered(ORIGINS);
 uint32_t __real_vdb_walk(WALK);
 
 static int broken(int number)
@@ -105,6 +107,13 @@ uint32_t __wrap_vdb_fill_leaves_numbered(const uint8_t *file, size_t file_len, u
         memcpy(slots + 512, kept, sizeof kept);
     }
     for (size_t i = 0; broken(17) && i < slots_len; i++) slots[i] += slots[i] == 0x80000000 ? 0x80000000 : 0; /* the sign of zero is lost */
+    return k;
+}
+
+uint32_t __wrap_vdb_leaf_origins_numbered(ORIGINS)
+{
+    uint32_t k = __real_vdb_leaf_origins_numbered(file, file_len, n, first, x, x_len, y, y_len, z, z_len);
+    if (broken(26) && k == 0 && z_len > 0) z[z_len - 1] += 8; /* another origin for the last leaf */
     return k;
 }
 

@@ -16,5 +16,5 @@ fi
 compile -O2 -c "$here/whole.cc" -o "$build/whole.o"
 "${CC:-cc}" -std=c11 -Wall -Wextra -Werror -O2 -I"$root/include" -c "$here/broken.c" -o "$build/whole_broken.o"
 compile "$build/whole.o" "$root/target/staticlib/libvdb.a" -o "$build/whole"
-wrapped=open_file,grid_numbered,grid_named,grid_entry_numbered,grid_entry_named,open_grid_numbered,open_grid_named,fill_leaves_numbered,walk
+wrapped=open_file,grid_numbered,grid_named,grid_entry_numbered,grid_entry_named,open_grid_numbered,open_grid_named,fill_leaves_numbered,leaf_origins_numbered,walk
 compile "$build/whole.o" "$build/whole_broken.o" "$root/target/staticlib/libvdb.a" -Wl,--wrap=vdb_"${wrapped//,/,--wrap=vdb_}" -o "$build/whole_broken"

@@ -2,7 +2,7 @@
 //
 //     whole SEED < PATHS     one path a line
 //
-// Of each file: header, descriptors, metadata, transform, background, every leaf's values, every record, and the number of a refusal. The records come
+// Of each file: header, descriptors, metadata, transform, background, every leaf's values and origin, every record, and the number of a refusal. The records come
 // in portions drawn from SEED. Each must be active in OpenVDB's tree, at its level and with its value, and successive ones must rise in the order of
 // document 01's section 7, which `Order` computes from a record alone. So none comes twice; and as there are as many as OpenVDB counts, none is missing.
 // Leaves are numbered by the same order. What their inactive places hold by document 01, zero where OpenVDB has the background, comes from the parse of
@@ -196,6 +196,17 @@ void leaf_values(const RawLeaf& raw, const Leaf& leaf, const uint32_t* ours)
     counts.forms[uint32_t(raw.stored.byte)]++;
 }
 
+// Where all leaves lie, in two calls.
+void origins(const Bytes& bytes, const std::vector<const Leaf*>& theirs, uint32_t number)
+{
+    const size_t half = theirs.size() / 2;
+    for (const auto& [first, run] : {std::pair<size_t, size_t>(0, half), {half, theirs.size() - half}}) {
+        std::vector<int32_t> x(run), y(run), z(run);
+        agree(vdb_leaf_origins_numbered(bytes.at, bytes.length, number, first, x.data(), run, y.data(), run, z.data(), run) == 0, "ours: origins");
+        for (size_t i = 0; i < run; i++) agree(theirs[first + i]->origin() == openvdb::Coord(x[i], y[i], z[i]), "ours: a leaf's origin");
+    }
+}
+
 // Runs of leaves of drawn lengths. Each call opens the grid, so that a run has at least a thirtieth of them.
 void leaves(const Bytes& bytes, const RawGrid& raw, const std::vector<const Leaf*>& theirs, uint32_t number)
 {
@@ -207,6 +218,7 @@ void leaves(const Bytes& bytes, const RawGrid& raw, const std::vector<const Leaf
         for (size_t n = 0; n < run; n++) leaf_values(raw.leaves[first + n], *theirs[first + n], &slots[512 * n]);
         first += run;
     }
+    origins(bytes, theirs, number);
     slots.assign(512, 0);
     agree(vdb_fill_leaf_numbered(bytes.at, bytes.length, number, theirs.size(), slots.data(), 512) == 21, "ours: a leaf that is not there");
     counts.leaves += theirs.size();

@@ -15,4 +15,4 @@ compile() { # the program, and what it is made of
 }
 compile dump "$here/dump.c"
 compile damage "$here/../damage/damage.c"
-compile broken "$here/../damage/damage.c" "$here/../damage/broken.c" -Wl,--wrap=vdb_open_file,--wrap=vdb_fill_leaf_numbered,--wrap=vdb_walk
+compile broken "$here/../damage/damage.c" "$here/../damage/broken.c" -Wl,--wrap=vdb_open_file,--wrap=vdb_fill_leaf_numbered,--wrap=vdb_walk,--wrap=vdb_leaf_origins_numbered

@@ -87,7 +87,7 @@ def first_words(text):
 
 def exactly(dump, paths, other, counts):
     for path, text in zip(paths, ours(dump, paths, '--more'), strict=True):
-        theirs = canonical.without_origins(other(path))
+        theirs = other(path)
         counts.add(text, kinds(first_words(text)))
         if text != theirs:
             counts.strange += 1
@@ -104,7 +104,7 @@ def without_common(one, other):
 
 def apart_from_listed(dump, rust, paths, counts):
     for path, text in zip(paths, ours(dump, paths), strict=True):
-        theirs = canonical.without_origins(rows.dumped(rust, path, memory=12 << 30))
+        theirs = rows.dumped(rust, path, memory=12 << 30)
         version = int((re.search(r'^version (\d+)', text, flags=re.MULTILINE) or [0, 0])[1])
         *rest, common = without_common(theirs, text)
         compared, found = canonical.differences(*rest)
@@ -127,7 +127,7 @@ def line_by_line(dump, rust, paths, counts):
         for pair in itertools.zip_longest(*(side.stdout for side in sides), fillvalue=b'nothing'):
             words[pair[0].split(None, 1)[0].decode()] += 1
             if pair[0] != pair[1] and difference is None:
-                difference = canonical.first_difference(*(canonical.without_origins(line.decode()) for line in pair))
+                difference = canonical.first_difference(*(line.decode() for line in pair))
         counts.add('', kinds(words))
         if difference or any(side.wait() for side in sides):
             counts.strange += 1
@@ -139,7 +139,7 @@ def with_background(dump, describe, paths):
     found = 0
     for path, text in zip(paths, ours(dump, paths), strict=True):
         pair = [re.findall(r'^leaf .*', side, flags=re.MULTILINE)
-                for side in (text, canonical.without_origins(openvdb_text(describe, path)))]
+                for side in (text, openvdb_text(describe, path))]
         found += sum(one != other for one, other in zip(*pair, strict=True))
     return found
 

@@ -1,7 +1,7 @@
 /*
  * Every answer comes from the library. The file itself is looked at for one thing: the library answers about a metadata entry by its name and lists no
  * names, so the names are collected from where the header's and the descriptors' words say that the metadata starts. An opened file has its metadata
- * whole; no length is tested here. The library tells no leaf's origin: three `-` stand for it.
+ * whole; no length is tested here.
  */
 #include "text.h"
 
@@ -190,9 +190,9 @@ static uint64_t digest(const uint32_t *values, size_t count)
     return found;
 }
 
-static void print_leaf(struct text *t, uint64_t number, const uint32_t values[512])
+static void print_leaf(struct text *t, uint64_t number, const int32_t origin[3], const uint32_t values[512])
 {
-    fprintf(t->out, "leaf %" PRIu64 " - - - 512 %016" PRIx64 "\n", number, digest(values, 512));
+    fprintf(t->out, "leaf %" PRIu64 " %" PRId32 " %" PRId32 " %" PRId32 " 512 %016" PRIx64 "\n", number, origin[0], origin[1], origin[2], digest(values, 512));
     for (size_t i = 0; t->options.values && i < 512; i++)
         fprintf(t->out, "%s %08" PRIx32 "%s", i % 8 == 0 ? "values" : "", values[i], i % 8 == 7 ? "\n" : "");
 }
@@ -202,11 +202,13 @@ static void print_leaves(struct text *t, const struct grid *grid, uint64_t count
 {
     enum { RUN = 256 };
     uint32_t *slots = room(512 * RUN, 4);
+    int32_t x[RUN], y[RUN], z[RUN];
     fprintf(t->out, "leaves %" PRIu64 "\n", count);
     for (uint64_t first = 0; first < count; first += RUN) {
         uint64_t run = count - first < RUN ? count - first : RUN;
         if (refused(t, vdb_fill_leaves_numbered(t->file, t->file_len, grid->number, first, slots, 512 * run))) break;
-        for (uint64_t i = 0; i < run; i++) print_leaf(t, first + i, slots + 512 * i);
+        if (refused(t, vdb_leaf_origins_numbered(t->file, t->file_len, grid->number, first, x, run, y, run, z, run))) break;
+        for (uint64_t i = 0; i < run; i++) print_leaf(t, first + i, (int32_t[]){x[i], y[i], z[i]}, slots + 512 * i);
     }
     free(slots);
 }

@@ -21,7 +21,7 @@ static size_t file_len;
 /* A question: its command, its numbers, and the bytes of the grid's name and of the name. */
 struct question {
     char command[16];
-    uint64_t n[4];
+    uint64_t n[5];
     int numbers;
     uint8_t bytes[2][256];
     size_t len[2];
@@ -41,7 +41,7 @@ static struct question parse(const char *line)
     memset(&q, 0, sizeof q);
     sscanf(line, "%15[A-Za-z]%n", q.command, &used);
     line += used;
-    while (q.numbers < 4 && sscanf(line, " %" SCNu64 "%n", &q.n[q.numbers], &used) == 1) {
+    while (q.numbers < 5 && sscanf(line, " %" SCNu64 "%n", &q.n[q.numbers], &used) == 1) {
         q.numbers++;
         line += used;
     }
@@ -264,6 +264,25 @@ static void fill(const struct question *q)
     printf(" = %08" PRIx64, sum);
 }
 
+/* The slots hold 71, 72 and 73 before they are lent; those that are not filled must still do. */
+static void origins(const struct question *q)
+{
+    enum { MOST = 32 };
+    int32_t x[MOST], y[MOST], z[MOST];
+    uint64_t filled;
+    uint32_t k;
+    int kept = 1;
+    for (int i = 0; i < MOST; i++) x[i] = 71, y[i] = 72, z[i] = 73;
+    if (q->n[1] > MOST || q->n[2] > MOST || q->n[3] > MOST) stop("too many slots");
+    k = q->numbers == 5 ? vdb_leaf_origins_numbered(file, file_len, (uint32_t)q->n[4], q->n[0], x, q->n[1], y, q->n[2], z, q->n[3])
+                        : vdb_leaf_origins_named(file, file_len, q->bytes[0], q->len[0], q->n[0], x, q->n[1], y, q->n[2], z, q->n[3]);
+    filled = k == 0 ? q->n[1] : 0;
+    if (!refused(k)) printf(" f");
+    for (uint64_t i = 0; i < filled; i++) printf(" | %" PRId32 " %" PRId32 " %" PRId32, x[i], y[i], z[i]);
+    for (uint64_t i = filled; i < MOST; i++) kept = kept && x[i] == 71 && y[i] == 72 && z[i] == 73;
+    printf(" %d", kept);
+}
+
 int main(int count, char **argument)
 {
     static char line[4096];
@@ -286,6 +305,7 @@ int main(int count, char **argument)
         case 'f':
         case 'j':
         case 'v': fill(&q); break;
+        case 'O': origins(&q); break;
         default: stop(line);
         }
         putchar('\n');

@@ -416,6 +416,15 @@ impl<'f> Grid<'f> {
     pub fn fill_leaves(&self, first: u64, slots: &mut [u32]) -> Result<(), ParseError> {
         sys::fill_leaves(self.file, self.descriptor.name, first, slots)
     }
+
+    /// The origins, lowest voxels, of the leaves from number `first` on, as many as the three slices are long: where the leaves lie that
+    /// [`fill_leaves`](Self::fill_leaves) gives the values of. Place p of a leaf is the voxel x = p / 64, y = p / 8 % 8, z = p % 8 from its origin on.
+    ///
+    /// [`ParseError::NoSuchLeaf`] if one of these leaves is not there, or the slices have different lengths; they are then as they were. The call opens
+    /// the grid anew, once for all of them.
+    pub fn leaf_origins(&self, first: u64, x: &mut [i32], y: &mut [i32], z: &mut [i32]) -> Result<(), ParseError> {
+        sys::leaf_origins(self.file, self.descriptor.name, first, [x, y, z])
+    }
 }
 
 impl fmt::Debug for Grid<'_> {

@@ -71,6 +71,19 @@ mod c {
             slots: *mut u32,
             slots_len: usize,
         ) -> u32;
+        pub fn vdb_leaf_origins_named(
+            file: *const u8,
+            len: usize,
+            name: *const u8,
+            name_len: usize,
+            first: u64,
+            x: *mut i32,
+            x_len: usize,
+            y: *mut i32,
+            y_len: usize,
+            z: *mut i32,
+            z_len: usize,
+        ) -> u32;
     }
 }
 
@@ -186,5 +199,25 @@ pub fn fill_leaves(file: &[u8], grid: &[u8], first: u64, slots: &mut [u32]) -> R
     // SAFETY: each slice has its length.
     ParseError::check(unsafe {
         c::vdb_fill_leaves_named(file.as_ptr(), file.len(), grid.as_ptr(), grid.len(), first, slots.as_mut_ptr(), slots.len())
+    })
+}
+
+pub fn leaf_origins(file: &[u8], grid: &[u8], first: u64, [x, y, z]: [&mut [i32]; 3]) -> Result<(), ParseError> {
+    same_layout()?;
+    // SAFETY: each slice has its length; no two `&mut` overlap.
+    ParseError::check(unsafe {
+        c::vdb_leaf_origins_named(
+            file.as_ptr(),
+            file.len(),
+            grid.as_ptr(),
+            grid.len(),
+            first,
+            x.as_mut_ptr(),
+            x.len(),
+            y.as_mut_ptr(),
+            y.len(),
+            z.as_mut_ptr(),
+            z.len(),
+        )
     })
 }

@@ -144,6 +144,28 @@ fn fill(file: &[u8], q: &Question) -> Result<String, ParseError> {
     Ok(format!("{text} = {sum:08x}"))
 }
 
+/// The slots hold 71, 72 and 73 before they are lent; those that are not filled must still do.
+fn origins(file: &[u8], q: &Question) -> String {
+    let (mut x, mut y, mut z) = ([71; 32], [72; 32], [73; 32]);
+    let lengths = [q.numbers[1], q.numbers[2], q.numbers[3]].map(|length| length as usize);
+    let answer = VdbReader::new(file).and_then(|reader| {
+        let grid = match q.numbers[..] {
+            [_, _, _, _, n] => reader.read_grid_numbered(n as u32)?,
+            _ => reader.read_grid(&q.names[0])?,
+        };
+        grid.leaf_origins(q.numbers[0], &mut x[..lengths[0]], &mut y[..lengths[1]], &mut z[..lengths[2]])
+    });
+    let (mut text, filled) = match answer {
+        Ok(()) => (" f".to_string(), lengths[0]),
+        Err(e) => (format!(" refused {}", e.number()), 0),
+    };
+    for i in 0..filled {
+        write!(text, " | {} {} {}", x[i], y[i], z[i]).unwrap();
+    }
+    let kept = (filled..32).all(|i| (x[i], y[i], z[i]) == (71, 72, 73));
+    format!("{text} {}", u8::from(kept))
+}
+
 /// The expected answer without what the crate does not hand out.
 fn without(word: &str, answer: &str) -> String {
     let mut words: Vec<_> = answer.split(' ').collect();
@@ -181,4 +203,19 @@ fn answers_are_those_of_openvdb() {
         asked += 1;
     }
     assert!(asked > 1000, "{asked} questions");
+}
+
+#[test]
+fn origins_are_those_of_openvdb() {
+    let lines = std::fs::read_to_string(common::repository().join("crates/questions/stdout")).unwrap();
+    let (mut file, mut asked) = (Vec::new(), 0);
+    for line in lines.lines().skip_while(|line| !line.starts_with("# == origins")) {
+        if let Some(name) = line.strip_prefix("load: ") {
+            file = common::read(name.trim_matches('"'));
+        }
+        let Some((question, expected)) = line.split_once('?').filter(|_| line.starts_with("Origins")) else { continue };
+        assert_eq!(origins(&file, &parse(question)), expected, "{question}");
+        asked += 1;
+    }
+    assert!(asked > 100, "{asked} questions");
 }
