@@ -22,7 +22,7 @@ use Rattle.cursor.specs.declared.Cursor.{Cursor}
 use Rattle.skip.specs.Inner.{before, skipping, skipFrom}
 use Rattle.skip.proofs.Laws.{leavesIn}
 use Rattle.skip.proofs.Few.{cursor-leaves}
-use Rattle.place.specs.Inner.{join, entered, listing, listingFrom, course, endOf, behindOf}
+use Rattle.place.specs.Inner.{join, entered, listing, listingFrom, course, standOf, behindOf}
 use Rattle.place.proofs.Own.{own-records}
 use Rattle.place.proofs.Cut.{course-full}
 use Rattle.place.proofs.Listing.{many, list-none, list-some, first-stop}
@@ -54,7 +54,7 @@ module _ (s : List ℕ) (c : Coding) (wide : isWidth (c .width)) where
   abbrev Leads : List Stop → ℕ → Option ℕ → Type 0
   Leads ts k r =
       (x : Cursor) (want : ℕ) (h : Handed) → h .whole ≡ true → length (h .records) < want → want ≤ length (course s c want h x (listing s ts) .records) →
-      behindOf s c (skipping s (want - length (h .records) - 1) k ts r) ≡ some (endOf (course s c want h x (listing s ts)))
+      behindOf s c (skipping s (want - length (h .records) - 1) k ts r) ≡ some (standOf (course s c want h x (listing s ts)))
 
   module _ (t : Stop) (ts : List Stop) (k : ℕ) (r : Option ℕ) (few : leavesIn (t ∷ ts) ≤ k) (later : Leads ts (k - leafCount (t .piece)) r) where
     -- the next piece lists nothing
@@ -68,14 +68,14 @@ module _ (s : List ℕ) (c : Coding) (wide : isWidth (c .width)) where
     in-piece :
         HeldPiece s c (t .piece) → (want : ℕ) → 0 < want → let h = handPiece s c want (entered (t .piece)) in
         want ≤ length (course s c want h (t .behind) (listing s ts) .records) →
-        behindOf s c (skipping s (want - 1) k (t ∷ ts) r) ≡ some (endOf (course s c want h (t .behind) (listing s ts)))
+        behindOf s c (skipping s (want - 1) k (t ∷ ts) r) ≡ some (standOf (course s c want h (t .behind) (listing s ts)))
     in-piece held want l m = go (own-records s c (t .piece) held want) (ltb (recordCount s (t .piece)) want) refl
       where
         h : Handed
         h = handPiece s c want (entered (t .piece))
 
         go : (h .records ≡ take want (recordsOf s c (t .piece))) × (h .whole ≡ true) → (b : Bool) → ltb (recordCount s (t .piece)) want ≡ b →
-            behindOf s c (skipping s (want - 1) k (t ∷ ts) r) ≡ some (endOf (course s c want h (t .behind) (listing s ts)))
+            behindOf s c (skipping s (want - 1) k (t ∷ ts) r) ≡ some (standOf (course s c want h (t .behind) (listing s ts)))
         go own true b =
             let i = ltb-true (recordCount s (t .piece)) want b in
             let n : length (h .records) ≡ recordCount s (t .piece) = ap length (own .0 ∙ take-all want _ (omega (arith, i, many s c (t .piece)))) ∙ many s c (t .piece) in
@@ -110,6 +110,6 @@ module _ (s : List ℕ) (c : Coding) (wide : isWidth (c .width)) where
   pub leads-on :
       (x : Cursor) → x .«roots_left» < 4294967296 → (want : ℕ) (h : Handed) → h .whole ≡ true → length (h .records) < want →
       want ≤ length (course s c want h x (listingFrom s c x) .records) →
-      behindOf s c (skipFrom s c (want - length (h .records) - 1) 18446744073709551615 x) ≡ some (endOf (course s c want h x (listingFrom s c x)))
+      behindOf s c (skipFrom s c (want - length (h .records) - 1) 18446744073709551615 x) ≡ some (standOf (course s c want h x (listingFrom s c x)))
   leads-on x small want h w l m =
       leads (toCome s c x .items) x _ (toCome s c x .refusal) refl (omega (arith, cursor-leaves s c x)) x want h w l m

@@ -32,7 +32,7 @@ use Rattle.skip.specs.Inner.{before, skipFrom}
 use Rattle.skip.proofs.Laws.{leavesIn, Stops, skip-stops}
 use Rattle.skip.proofs.Few.{cursor-leaves}
 use Rattle.nth.specs.Inner.{HasOne, BehindOne}
-use Rattle.place.specs.Inner.{entered, atPlace, listingFrom, handOn, moved, endOf, behindOf, Stands, behind, within, EndsAt, Walking, Steps}
+use Rattle.place.specs.Inner.{entered, atPlace, listingFrom, handOn, moved, standOf, behindOf, Stands, behind, within, EndsAt, Walking, Steps}
 use Rattle.place.specs.declared.Place.{Place}
 use Rattle.place.specs.declared.StepAnswer.the-variants.{At as StepAt, Refused as StepRefused}
 use Rattle.place.proofs.Laws.{some-same}
@@ -133,7 +133,7 @@ module _ (s : List ℕ) (c : Coding) (wide : isWidth (c .width)) (k : ℕ) (x : 
   -- j records are handed out of its piece, and the others are counted
   ends-by :
       {j : ℕ} {b : Option (Cursor × Inside)} → x .«roots_left» < 4294967296 → handPiece s c k w .whole ≡ true → length (handPiece s c k w .records) ≡ j → j < k →
-      b ≡ behindOf s c (skipFrom s c (k - j - 1) 18446744073709551615 x) → k ≤ length (handOn s c k x w .records) → b ≡ some (endOf (handOn s c k x w))
+      b ≡ behindOf s c (skipFrom s c (k - j - 1) 18446744073709551615 x) → k ≤ length (handOn s c k x w .records) → b ≡ some (standOf (handOn s c k x w))
   ends-by small f z l d m =
       d ∙ ap (λ (j : ℕ). behindOf s c (skipFrom s c (k - j - 1) 18446744073709551615 x)) (sym z)
       ∙ leads-on s c wide x small k (handPiece s c k w) f (rw z l) m
@@ -178,8 +178,8 @@ module _ (s : List ℕ) (c : Coding) (x : Cursor) (w : Inside) where
       go false true = (refl, refl)
       go false false = (refl, refl)
 
-  pub stays : endOf (handOn s c 0 x w) ≡ (x, w)
-  stays = ap endOf (course-full s c 0 (handPiece s c 0 w) x (listingFrom s c x) (ap length (none-handed .0))) ∙ ap (λ (w : Inside). (x, w)) (none-handed .1)
+  pub stays : standOf (handOn s c 0 x w) ≡ (x, w)
+  stays = ap standOf (course-full s c 0 (handPiece s c 0 w) x (listingFrom s c x) (ap length (none-handed .0))) ∙ ap (λ (w : Inside). (x, w)) (none-handed .1)
 
 -- A step: nothing is to be passed, or the walk's words are none, or it stands behind the records that are passed.
 module _ (s : List ℕ) (p : Place) {k : ℕ} where

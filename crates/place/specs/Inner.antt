@@ -140,8 +140,8 @@ pub data Stands (s : List ℕ) (c : Coding) : Inside → Type 0 where
   within : {w : Inside} (q : Piece) (p : ℕ) → HeldPiece s c q → w ≡ atPlace s q p → Stands s c w
 
 -- where a course ends, and what the code's answer says of it
-abbrev pub endOf : Course → Cursor × Inside
-endOf a = (a .cursor, a .inside)
+abbrev pub standOf : Course → Cursor × Inside
+standOf a = (a .cursor, a .inside)
 
 abbrev pub saysBehind : Behind → Option (Cursor × Inside)
 saysBehind (BehindAt x w) = some (x, w)
@@ -155,7 +155,7 @@ behindOf s c (refused j) = none
 
 -- b is where a walk that can stand so, and has k records before it, ends behind them
 abbrev pub EndsAt : List ℕ → Coding → ℕ → Cursor → Inside → Option (Cursor × Inside) → Type 0
-EndsAt s c k x w b = Stands s c w → k ≤ length (handOn s c k x w .records) → b ≡ some (endOf (handOn s c k x w))
+EndsAt s c k x w b = Stands s c w → k ≤ length (handOn s c k x w .records) → b ≡ some (standOf (handOn s c k x w))
 
 -- The walk of a place over the bytes s stands, and has k records before it.
 pub record Walking (s : List ℕ) (p : Place) (k : ℕ) : Type 0 where

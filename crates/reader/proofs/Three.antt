@@ -41,7 +41,7 @@ use denote.Triple.Walked.{Stays, stay-none, stay-none-slice, onExit, walkOf, goe
 use denote.Exit.{yes}
 use Rattle.fields.specs.Parse.{Parse, got, fails, then}
 use Rattle.reader.specs.Reader.{readerAt, nextAt, reading}
-use Rattle.reader.specs.Inner.{inRow}
+use Rattle.reader.specs.Inner.{threeInRow}
 use Rattle.reader.specs.declared.Reader.{Reader}
 use Rattle.reader.proofs.Reader as T
 use Rattle.reader.proofs.Reader.Laws as T′
@@ -67,23 +67,23 @@ module _ {X Y : Type 0} (joined : X → X → X → Y) (reads : List ℕ → ℕ
   abbrev threeField : List ℕ → ℕ → Parse Y
   threeField s at = then (reads s at) (λ x p. then (reads s p) (λ y q. then (reads s q) (λ z n. got (joined x y z) n)))
 
-  second : (f : ℕ → Parse X) (x : X) (p : ℕ) (b : Parse X) → inRow joined (got x p) b (f (nextAt b p)) ≡ then b (λ y q. then (f q) (λ z n. got (joined x y z) n))
-  unfolding inRow then
+  second : (f : ℕ → Parse X) (x : X) (p : ℕ) (b : Parse X) → threeInRow joined (got x p) b (f (nextAt b p)) ≡ then b (λ y q. then (f q) (λ z n. got (joined x y z) n))
+  unfolding threeInRow then
   second f x p (got y q) = refl
   second f x p (fails k) = refl
 
   first : (s : List ℕ) (at : ℕ) (a : Parse X)
-      → inRow joined a (reads s (nextAt a at)) (reads s (nextAt (reads s (nextAt a at)) (nextAt a at)))
+      → threeInRow joined a (reads s (nextAt a at)) (reads s (nextAt (reads s (nextAt a at)) (nextAt a at)))
       ≡ then a (λ x p. then (reads s p) (λ y q. then (reads s q) (λ z n. got (joined x y z) n)))
-  unfolding inRow then
+  unfolding threeInRow then
   first s at (got x p) = second (reads s) x p (reads s p)
   first s at (fails k) = refl
 
-  all-read : (h h₁ h₂ h₃ : Reader) (p₁ p₂ p₃ : Parse X) → Told reads h p₁ h₁ → Told reads h₁ p₂ h₂ → Told reads h₂ p₃ h₃ → inRow joined p₁ p₂ p₃ ≡ threeField (now (h .src)) (h .at)
+  all-read : (h h₁ h₂ h₃ : Reader) (p₁ p₂ p₃ : Parse X) → Told reads h p₁ h₁ → Told reads h₁ p₂ h₂ → Told reads h₂ p₃ h₃ → threeInRow joined p₁ p₂ p₃ ≡ threeField (now (h .src)) (h .at)
   all-read h h₁ h₂ h₃ p₁ p₂ p₃ e₁ e₂ e₃ =
       let e₂′ : Told reads (reading reads h .1) p₂ h₂ = e₂ ∙ ap (reading reads) (λ i. e₁ i .1) in
       let e₃′ : Told reads (reading reads (reading reads h .1) .1) p₃ h₃ = e₃ ∙ ap (reading reads) (λ i. e₂′ i .1) in
-      (λ i. inRow joined (e₁ i .0) (e₂′ i .0) (e₃′ i .0)) ∙ first (now (h .src)) (h .at) (reads (now (h .src)) (h .at))
+      (λ i. threeInRow joined (e₁ i .0) (e₂′ i .0) (e₃′ i .0)) ∙ first (now (h .src)) (h .at) (reads (now (h .src)) (h .at))
 
 -- ---- the contract of `new`
 module _ {M : Type 1} (𝓤 : URA M) where
@@ -115,7 +115,7 @@ module _ (Q : Three) where
 
   -- what the joining function says of its answer
   abbrev Joined : F K .Denot → F K .Denot → F K .Denot → B .Denot → Type 0
-  Joined f₁ f₂ f₃ r = Q .tells r ≡ inRow (Q .joined) (K .tells f₁) (K .tells f₂) (K .tells f₃)
+  Joined f₁ f₂ f₃ r = Q .tells r ≡ threeInRow (Q .joined) (K .tells f₁) (K .tells f₂) (K .tells f₃)
 
   module _ {M : Type 1} (𝓤 : URA M) where
     abbrev join-clauses : Clauses 𝓤 join-ended

@@ -4,8 +4,8 @@ use Rattle.fields.specs.declared.Span.{Span}
 use Rattle.descriptor.specs.declared.GridNames.{GridNames}
 
 -- three fields read in a row and joined; the first that is refused counts
-unfoldable pub inRow : {A B : Type 0} → (A → A → A → B) → Parse A → Parse A → Parse A → Parse B
-inRow joined a b c =
+unfoldable pub threeInRow : {A B : Type 0} → (A → A → A → B) → Parse A → Parse A → Parse A → Parse B
+threeInRow joined a b c =
     then a λ x p.
     then b λ y q.
     then c λ z n.

@@ -6,7 +6,7 @@ ghost use Rattle.fields.specs.Says.{saysU32, saysIVec3, saysDVec3, saysSpan};
 ghost use Rattle.descriptor.specs.Descriptor.{namesField};
 ghost use Rattle.descriptor.specs.Says.{saysNames};
 ghost use Rattle.reader.specs.Reader.{readerAt, nextAt, reading, versions, versionsField, saysVersions};
-ghost use Rattle.reader.specs.Inner.{inRow, names};
+ghost use Rattle.reader.specs.Inner.{threeInRow, names};
 use descriptor::GridNames;
 use descriptor::NamesField;
 use fields::DVec3Field;
@@ -122,7 +122,7 @@ pub fn read_name<'s, 'a>(reader: &'s mut Reader<'a>) -> SpanField
 
 // A descriptor's names, of three strings read in a row.
 fn names_of(name: SpanField, grid_type: SpanField, instance_parent: SpanField) -> NamesField
-    ensures { λ r. ⌜ saysNames r ≡ inRow names (saysSpan name) (saysSpan «grid_type») (saysSpan «instance_parent») ⌝ }
+    ensures { λ r. ⌜ saysNames r ≡ threeInRow names (saysSpan name) (saysSpan «grid_type») (saysSpan «instance_parent») ⌝ }
 {
     match name {
         SpanField::Past => NamesField::Past,
@@ -157,7 +157,7 @@ pub fn read_names(s: &[u8], at: usize) -> NamesField
 
 // The header's three numbers, of three fields read in a row.
 fn versions_of(version: U32Field, major: U32Field, minor: U32Field) -> VersionsField
-    ensures { λ r. ⌜ saysVersions r ≡ inRow versions (saysU32 version) (saysU32 major) (saysU32 minor) ⌝ }
+    ensures { λ r. ⌜ saysVersions r ≡ threeInRow versions (saysU32 version) (saysU32 major) (saysU32 minor) ⌝ }
 {
     match version {
         U32Field::Past => VersionsField::Past,

@@ -27,7 +27,7 @@ use Rattle.cursor.specs.Inner.{stop, inNode4, beyond, isEntered, nextChild, res
 use Rattle.cursor.specs.declared.Cursor.{Cursor}
 use Rattle.cursor.specs.declared.Entered.{Entered}
 use Rattle.cursor.proofs.Laws.{EnteredNode, entered-back, entered-aligned, children-some, to-come4, leaf-there}
-use Rattle.skip.specs.Inner.{RanTo, node4Of, runOf, LeavesRan}
+use Rattle.skip.specs.Inner.{RanTo, node4Of, asRun, LeavesRan}
 use Rattle.skip.specs.declared.Run.{Run}
 use Rattle.skip.specs.declared.LeafRun.{LeafRun}
 use Rattle.skip.proofs.Steps.{ran-none, same-ahead, ran-on, piece-passed}
@@ -35,7 +35,7 @@ use Rattle.skip.proofs.Steps.{ran-none, same-ahead, ran-on, piece-passe
 -- a run begins where it stands
 pub begins :
     (s : List ℕ) (c : Coding) (origin : GlobalCoord) (node : ℕ) (t : LeafRun) → isEntered s 128 512 (node4Of origin node (t .next)) ≡ true → LeavesRan s c origin node t t
-begins s c origin node t h = record { words = h; ran = λ roots five. ran-none s c (runOf roots five origin node t) }
+begins s c origin node t h = record { words = h; ran = λ roots five. ran-none s c (asRun roots five origin node t) }
 
 -- and is a run from the cursor that stands in this 4-node
 module _ (t : Run) where
@@ -50,7 +50,7 @@ module _ (t : Run) where
 
   pub ran-there :
       {s : List ℕ} {c : Coding} {r : LeafRun} {y : Cursor} → x .depth ≡ 2 → LeavesRan s c (w .origin) (w .pos) first r →
-      y ≡ runOf (x .«roots_left») (x .node5) (w .origin) (w .pos) r .cursor → RanTo s c t (record { cursor = y; records = r .records; leaves = r .leaves })
+      y ≡ asRun (x .«roots_left») (x .node5) (w .origin) (w .pos) r .cursor → RanTo s c t (record { cursor = y; records = r .records; leaves = r .leaves })
   unfolding toCome when
   ran-there {s} {c} e h d =
       let f : toCome s c (inNode4 (x .«roots_left») (x .node5) w (x .«topology_pos») (x .«block_pos»)) ≡ toCome s c x = rw e in
@@ -86,7 +86,7 @@ module _ {s : List ℕ} {c : Coding} {origin : GlobalCoord} {node : ℕ} {t v : 
 
       there :
           (roots : ℕ) (five : Entered) (b : Block) → got b r ≡ blockField s c (record { origin = o; mask = w .start }) (v .block) →
-          (let y = runOf roots five origin node further .cursor in stop (leafPiece b) y (toCome s c y)) ≡ toCome s c (runOf roots five origin node v .cursor)
+          (let y = asRun roots five origin node further .cursor in stop (leafPiece b) y (toCome s c y)) ≡ toCome s c (asRun roots five origin node v .cursor)
       unfolding rest4
       there roots five b g =
           leaf-there s c roots five origin node p (v .at) (v .block) d f g refl
@@ -105,6 +105,6 @@ module _ {s : List ℕ} {c : Coding} {origin : GlobalCoord} {node : ℕ} {t v : 
           record {
             words = sym (entered-aligned s 128 512 (beyond origin node p) (words .within) (omega arith) (sym multiple));
             ran = λ roots five.
-                let z = piece-passed s c (runOf roots five origin node v) (there roots five b (a .1)) k (is-leaf b) fits (omega (arith, one)) in
+                let z = piece-passed s c (asRun roots five origin node v) (there roots five b (a .1)) k (is-leaf b) fits (omega (arith, one)) in
                 record { same = z .0 ∙ h .ran roots five .same; no-more = omega (arith, z .1, h .ran roots five .no-more) };
           }

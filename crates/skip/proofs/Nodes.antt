@@ -22,7 +22,7 @@ use Rattle.cursor.specs.Inner.{stop, beyond, enteredAt, nodePiece, isEntered, n
 use Rattle.cursor.specs.declared.Cursor.{Cursor}
 use Rattle.cursor.specs.declared.Entered.{Entered}
 use Rattle.cursor.proofs.Laws.{EnteredNode, after-got, entered-back, entered-aligned, children-some, children-none, to-come5, to-come4, node4-there}
-use Rattle.skip.specs.Inner.{RanTo, node4Of, runOf, LeavesRan, InNode5, behindNode}
+use Rattle.skip.specs.Inner.{RanTo, node4Of, asRun, LeavesRan, InNode5, behindNode}
 use Rattle.skip.specs.declared.LeafRun.{LeafRun}
 use Rattle.skip.specs.declared.Run.{Run}
 use Rattle.skip.proofs.Steps.{same-ahead, ran-on, piece-passed}
@@ -75,7 +75,7 @@ module _ (s : List ℕ) (c : Coding) (t : Run) (in5 : InNode5 s t) where
       first = record { next = 0; at = q; block = x .«block_pos»; records = t .records; leaves = t .leaves }
 
       abbrev y : LeafRun → Run
-      y r = runOf (x .«roots_left») five o (x .«topology_pos») r
+      y r = asRun (x .«roots_left») five o (x .«topology_pos») r
 
       -- the cursor in the 4-node hands out the same
       enters : toCome s c (y first .cursor) ≡ toCome s c x

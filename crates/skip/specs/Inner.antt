@@ -70,14 +70,14 @@ abbrev pub node4Of : GlobalCoord → ℕ → ℕ → Entered
 node4Of origin node next = record { origin = origin; pos = node; next = next }
 
 -- where a run over its leaves stands, as a run over pieces, whatever stands around the 4-node
-abbrev pub runOf : ℕ → Entered → GlobalCoord → ℕ → LeafRun → Run
-runOf roots five origin node r =
+abbrev pub asRun : ℕ → Entered → GlobalCoord → ℕ → LeafRun → Run
+asRun roots five origin node r =
     record { cursor = inNode4 roots five (node4Of origin node (r .next)) (r .at) (r .block); records = r .records; leaves = r .leaves }
 
 -- a run over its leaves; the words are still a node's
 pub record LeavesRan (s : List ℕ) (c : Coding) (origin : GlobalCoord) (node : ℕ) (t r : LeafRun) : Type 0 where
   pub words : isEntered s 128 512 (node4Of origin node (r .next)) ≡ true
-  pub ran : (roots : ℕ) (five : Entered) → RanTo s c (runOf roots five origin node t) (runOf roots five origin node r)
+  pub ran : (roots : ℕ) (five : Entered) → RanTo s c (asRun roots five origin node t) (asRun roots five origin node r)
 
 -- a run stands in a 5-node, whose words are a node's
 pub record InNode5 (s : List ℕ) (t : Run) : Type 0 where

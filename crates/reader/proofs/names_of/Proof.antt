@@ -2,12 +2,12 @@
 use borrow.Author.Needs.{needs}
 use Rattle.fields.specs.Says.{saysSpan}
 use Rattle.fields.proofs.Steps.{then-by, steps}
-use Rattle.reader.specs.Inner.{inRow}
+use Rattle.reader.specs.Inner.{threeInRow}
 use Rattle.reader.proofs.names_of.Statement.{statement}
 use Rattle.reader.proofs.names_of.Tie as tie
 
 pub names-of-spec : {M : Type 1} → statement M
-unfolding inRow
+unfolding threeInRow
 names-of-spec =
     tie.close
     (tie.spec
