@@ -1,5 +1,6 @@
 /*
- * Times opening a file that was made to cost as much as it can, and beside it a memcpy of its bytes.
+ * Times opening a file that was made to cost as much as it can, and beside it a memcpy of its bytes. If its first grid is accepted, times opening that and
+ * a walk to its first record.
  *
  *     hostile FILE REPETITIONS
  */
@@ -8,6 +9,19 @@
 
 #include "record.h"
 #include "vdb.h"
+
+static void time_grid(const uint8_t *file, size_t len)
+{
+    uint64_t opened[VDB_OPENED_WORDS], place[VDB_PLACE_WORDS], counts[VDB_WALK_COUNTS];
+    int32_t x, y, z;
+    uint32_t level, value;
+    struct moment from = start();
+    if (vdb_open_grid_numbered(file, len, 0, opened, place) != 0) return;
+    print_time("open_grid", from);
+    from = start();
+    if (vdb_walk(file, len, place, &x, 1, &y, 1, &z, 1, &level, 1, &value, 1, counts) != 0 || counts[VDB_FILLED] != 1) exit(1);
+    print_time("walk_1", from);
+}
 
 int main(int count, char **argument)
 {
@@ -28,6 +42,7 @@ int main(int count, char **argument)
         from = start();
         if (vdb_open_file(file, len, words) != 0) return 1;
         print_time("open_file", from);
+        time_grid(file, len);
     }
     return 0;
 }

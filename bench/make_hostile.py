@@ -1,4 +1,4 @@
-"""Writes files that are made to cost opening as much as they can, by compare/cloud.py.
+"""Writes files that are made to cost opening or a walk as much as they can, by compare/cloud.py.
 
     make_hostile.py DIRECTORY
 """
@@ -15,6 +15,7 @@ def main(directory):
     for name, step, middle in ('ends', 32, False), ('middle', 4096, True):
         (pathlib.Path(directory) / f'{name}.vdb').write_bytes(cloud.crowded(SIZE // step * step - 4, step, middle))
     (pathlib.Path(directory) / 'metadata.vdb').write_bytes(cloud.shared(SIZE // 18))
+    (pathlib.Path(directory) / 'empty.vdb').write_bytes(cloud.hollow(19))
 
 
 if __name__ == '__main__':

@@ -165,6 +165,12 @@ static void fill_leaves(const uint8_t *s)
     if (vdb_fill_leaves_numbered(s, len, 0, 0, filled, 512 * leaves) != 0) stop("refused");
 }
 
+/* The origins of all leaves, in slots of the records; a cloud has more records than leaves. */
+static void leaf_origins(void)
+{
+    if (vdb_leaf_origins_numbered(file, len, 0, 0, row.x, leaves, row.y, leaves, row.z, leaves) != 0) stop("refused");
+}
+
 static void prepare(void)
 {
     FILE *f = fopen(path, "rb");
@@ -180,6 +186,7 @@ static void prepare(void)
     open_grid(file, fresh);
     records = opened[VDB_OPENED_ACTIVE_COUNT];
     leaves = opened[VDB_OPENED_LEAF_COUNT];
+    if (records < leaves) stop("fewer records than leaves");
     row = (struct slots){lent(4 * records), lent(4 * records), lent(4 * records), lent(4 * records), lent(4 * records)};
     listed = lent(records * sizeof *listed);
     filled = lent(4 * 512 * leaves);
@@ -254,6 +261,12 @@ static void measure(void)
     from = start();
     fill_leaf(leaves / 2);
     print_time("fill_leaf", from);
+    from = start();
+    fill_leaf(leaves - 1);
+    print_time("fill_last", from);
+    from = start();
+    leaf_origins();
+    print_time("leaf_origins", from);
     from = start();
     fill_leaves(file);
     print_time("fill_leaves", from);

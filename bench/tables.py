@@ -4,7 +4,7 @@ import statistics
 KINDS = [('fog', '4'), ('levelset', '4'), ('fog', '2'), ('levelset', '2')]
 NAMES = {'fog': 'fog', 'levelset': 'level set', '4': 'floats', '2': 'halves'}
 HOSTILE = {'ends': '64 names, each nearly the whole file, alike but for their ends', 'middle': 'the same, alike but for their middle',
-           'metadata': '64 grids over one metadata of the whole file'}
+           'metadata': '64 grids over one metadata of the whole file', 'empty': '77,824 leaves, of which only the last has an active voxel'}
 
 
 class Figures:
@@ -108,11 +108,12 @@ def readers(f):
 
 
 def leaves(f):
-    head = ['ms', 'one leaf', 'all leaves', 'all, ns a leaf', 'OpenVDB', 'Rust', 'OpenVDB / ours', 'Rust / ours']
+    head = ['ms', 'one leaf, in the middle', 'the last one', 'all leaves', 'all, ns a leaf', 'OpenVDB', 'Rust', 'OpenVDB / ours', 'Rust / ours', 'origins of all leaves']
     rows = []
     for c in f.clouds:
         every, other, rust = f.ms(c, 'fill_leaves'), f.ms(c, 'openvdb_read', 'openvdb_leaf_values'), f.ms(c, 'rust_read', 'rust_leaf_values')
-        rows.append([name_of(c), f.ms(c, 'fill_leaf'), every, every * 1e6 / f.number(c, 'leaves'), other, rust, over(other, every), over(rust, every)])
+        rows.append([name_of(c), f.ms(c, 'fill_leaf'), f.ms(c, 'fill_last'), every, every * 1e6 / f.number(c, 'leaves'), other, rust, over(other, every),
+                     over(rust, every), f.ms(c, 'leaf_origins')])
     return head, rows
 
 
@@ -161,6 +162,7 @@ def targets(f):
         bare('for comparison: Rust / the plain loop alone', lambda c: over(f.rust(c), f.ms(c, 'loop_4096'))),
         row('a record / the plain loop, 4,096 slots', 3, lambda c: f.ms(c, 'walk_4096') / f.ms(c, 'loop_4096')),
         row('a record / the plain loop, all slots', 3, lambda c: f.ms(c, 'walk_all') / f.ms(c, 'loop_all')),
+        row('passing all leaves: (filling the last leaf - opening) / opening', 1.1, lambda c: f.ms(c, 'fill_last') / f.ms(c, 'open') - 1),
         row('opening: a byte at 100 MB / at 10 MB', 1.2, lambda c: f.growth(c, 'open')),
         row('walking, 4,096 slots: the same', 1.2, lambda c: f.growth(c, 'walk_4096')),
         row('opening, walking, adding up: the same', 1.2, lambda c: f.growth(c, 'whole')),
@@ -172,8 +174,12 @@ def hostile(figures, statistic, clock):
     def ms(cloud, name):
         return statistic([time[clock] for time in cloud['times'][name]])
 
-    return ['File', 'bytes', 'memcpy, ms', 'opening the file, ms', 'opening / memcpy'], [
-        [HOSTILE[c['name']], c['bytes'], ms(c, 'memcpy'), ms(c, 'open_file'), ms(c, 'open_file') / ms(c, 'memcpy')] for c in figures['hostile']]
+    def grid(cloud, name):
+        return ms(cloud, name) if name in cloud['times'] else None
+
+    return ['File', 'bytes', 'memcpy, ms', 'opening the file, ms', 'opening / memcpy', 'opening its grid, ms', 'the first record, ms'], [
+        [HOSTILE[c['name']], c['bytes'], ms(c, 'memcpy'), ms(c, 'open_file'), ms(c, 'open_file') / ms(c, 'memcpy'), grid(c, 'open_grid'), grid(c, 'walk_1')]
+        for c in figures['hostile']]
 
 
 def costs(figures):

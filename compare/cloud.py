@@ -143,6 +143,17 @@ def shared(entries):
     return bytes(data) + u32(2) + u32(entries) + (text(b'n') + text(b'bool') + u32(1) + b'\1') * entries
 
 
+def hollow(nodes):
+    """A with so many 4-nodes of 4,096 leaves each, of which only the last leaf has an active voxel."""
+    four = node(4096, range(4096))
+    empty, last = mask(512, ()), mask(512, [511])
+    leaves = 4096 * nodes
+    root = FIELD['root origin'] + node(32768, range(nodes))
+    masks = [empty] * (leaves - 1) + [last]
+    root += b''.join(four + b''.join(masks[4096 * n:4096 * (n + 1)]) for n in range(nodes))
+    return a(roots=[root], block=(empty + b'\0') * (leaves - 1) + last + b'\0' + u32(ONE))
+
+
 def put(data, at, new):
     return data[:at] + new + data[at + len(new):]
 
