@@ -10,15 +10,15 @@ use Rattle.rows.proofs.next_portion.Statement.{statement}
 use Rattle.rows.proofs.next_portion.Tie as tie
 
 -- the call, its size, and the slice that was cut, after it
-module _ (c : tie.After-walk) where
-  abbrev sized : tie.After-portion-size
-  sized = c .before .before .before .before .before .before
+abbrev sized : tie.After-value → tie.After-portion-size
+sized c = c .before .before .before .before .before
 
+module _ (c : tie.After-walk) where
   abbrev start : tie.Start
-  start = sized .before .before .before
+  start = sized (c .before) .before .before .before
 
   abbrev size : ℕ
-  size = sized .portion-size .result
+  size = sized (c .before) .portion-size .result
 
   abbrev value : List ℕ
   value = c .walk .last .1 .1 .1 .1 .1 .1 .0
@@ -36,8 +36,8 @@ called c = c .before .before .before .before .before
 abbrev answer : tie.After-struct-known2 → tie.After-w
 answer c = c .before .before .before .before
 
-abbrev counted : tie.After-value3 → tie.After-w
-counted c = answer (c .before .before .before .before .before)
+abbrev counted : tie.After-level3 → tie.After-w
+counted c = answer (c .before .before .before .before)
 
 abbrev refusal : tie.After-value4 → tie.After-k
 refusal c = c .before .before .before .before .before .before
@@ -50,17 +50,17 @@ module _ (c : tie.After-w) where
   handed : let a = start call .args in c .w .given .0 .0 .filled ≤ min 64 (a .slots - a .past .filled)
   handed =
       let a = start call .args in
-      walked-few (a .s .now) (a .past) (a .slots) _ _ [] (lent-count (size call) _ (sized call .portion-size .ensures)) (call .walk .ensures) (c .w .given .1)
+      walked-few (a .s .now) (a .past) (a .slots) _ _ [] (lent-count (size call) _ (sized (call .before) .portion-size .ensures)) (call .walk .ensures) (c .w .given .1)
 
 few : tie.Need-in-a-row-requires
-few c κs = let w = counted c in let k = call w .walk .kept .1 .1 in few-slots _ _ _ _ _ _ _ (handed w) (k .0) (k .1 .0) (k .1 .1 .0) (k .1 .1 .1 .0) (back (call w))
+few c κs = let w = counted (c .before) in let k = call w .walk .kept .1 .1 in few-slots _ _ _ _ _ _ _ (handed w) (k .0) (k .1 .0) (k .1 .1 .0) (k .1 .1 .1 .0) (back (call w))
 
 returns : tie.Need-returns
 returns c =
-    let w = counted (c .before) in
+    let w = counted (c .before .before) in
     let k = call w in
     let a = start k .args in
-    let e = sized k .portion-size .ensures in
+    let e = sized (k .before) .portion-size .ensures in
     walked (a .s .now) (a .past) (a .slots) _ _ (c .in-a-row .result) (lent-count (size k) _ e) _ (k .walk .ensures) (w .w .given .1) (lent-long (size k) _ (value k) e (kept k)) (c .in-a-row .ensures)
 
 returns-2 : tie.Need-returns-2
@@ -68,7 +68,7 @@ returns-2 c =
     let r = refusal (c .before .before) in
     let k = called (r .before .before) in
     let a = start k .args in
-    refused (a .s .now) (a .past) (a .slots) _ _ (c .before .in-a-row2 .result) (lent-count (size k) _ (sized k .portion-size .ensures)) (k .walk .ensures) (r .k .given .1) (c .ended .ensures)
+    refused (a .s .now) (a .past) (a .slots) _ _ (c .before .in-a-row2 .result) (lent-count (size k) _ (sized (k .before) .portion-size .ensures)) (k .walk .ensures) (r .k .given .1) (c .ended .ensures)
 
 pub next-portion-spec : {M : Type 1} → statement M
 next-portion-spec =
@@ -76,15 +76,15 @@ next-portion-spec =
     (tie.spec
     (λ c κs. search needs)
     (λ c. search needs) (λ c. search needs) (λ c. search needs) (λ c. search needs) (λ c. search needs)
-    (λ c. cut-count _ _ (c .before .before .before .before .before .portion-size .ensures))
+    (λ c. cut-count _ _ (sized c .portion-size .ensures))
     (λ c κs. search needs)
     (λ c. search needs)
     (λ c. let w = answer c in let s = start (call w) in record { fits = sum-fits (s .args .past .filled) _ (s .args .slots) (handed w) (s .fits .slots .fits) (omega arith) })
     (λ c. sym (call (answer (c .before)) .walk .kept .1 .1 .0))
     (λ c. sym (call (answer (c .before .before)) .walk .kept .1 .1 .1 .0))
     (λ c. sym (call (answer (c .before .before .before)) .walk .kept .1 .1 .1 .1 .0))
-    (λ c. sym (call (answer (c .before .before .before .before)) .walk .kept .1 .1 .1 .1 .1 .0))
-    (λ c. sym (back (call (counted c))))
+    (λ c. sym (call (counted c) .walk .kept .1 .1 .1 .1 .1 .0))
+    (λ c. sym (back (call (counted (c .before)))))
     few
     (λ c. search needs)
     (λ c. search needs) (λ c. search needs) (λ c. search needs) (λ c. search needs)
