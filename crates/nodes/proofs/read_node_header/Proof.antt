@@ -1,13 +1,11 @@
 -- Each way out is the fields and checks up to it, as the calls found them: the two masks, check 18, the values.
 use borrow.Author.Needs.{needs}
-use mathlib.Core.Bool.{not}
-use mathlib.Core.Path.{_≡_, refl, ap}
-use Rattle.fields.specs.Parse.{got}
+use mathlib.Core.Path.{_≡_}
+use Rattle.fields.specs.Parse.{got, then, check}
 use Rattle.fields.specs.Fields.{bytesField}
 use Rattle.fields.specs.Says.{saysSpan}
-use Rattle.fields.proofs.Laws.{told, then-got, then-fails}
-use Rattle.fields.proofs.Steps.{steps, then-by, check-yes, check-no}
-use Rattle.values.specs.Inner.{saysValues}
+use Rattle.fields.proofs.Laws.{told}
+use Rattle.fields.proofs.Steps.{steps, then-by}
 use Rattle.nodes.specs.Nodes.{nodeField}
 use Rattle.nodes.proofs.Laws.{whole-mask}
 use Rattle.nodes.proofs.read_node_header.Statement.{statement}
@@ -28,20 +26,17 @@ masks : tie.Need-masks-overlap-requires
 masks c κs = let r = read (c .before) in let p = start (first (c .before)) .pre in (whole-mask _ _ _ (p .0) (p .1) (r .0), whole-mask _ _ _ (p .0) (p .1) (r .1))
 
 pub read-node-header-spec : {M : Type 1} → statement M
-unfolding nodeField
+unfolding nodeField then check
 read-node-header-spec =
     tie.close
     (tie.spec
     (λ c κs. search needs) (λ c. search needs) (λ c. search needs) (λ c. search (steps, then-by saysSpan))
     (λ c κs. search needs) (λ c. search needs) (λ c. search needs) (λ c. search (steps, then-by saysSpan))
     masks
-    (λ c. let m = c .before in let r = read (m .before .before) in
-    then-got _ (r .0) (then-got _ (r .1) (check-no _ (ap not (m .masks-overlap .ensures)) (ap not (c .if1 .taken)))))
+    (λ c. let m = c .before in let r = read (m .before .before) in rw (← r .0, ← r .1, ← m .masks-overlap .ensures, c .if1 .taken))
     (λ c κs. let k = c .before .before in let m = masks k κs in (m .0, m .1, start (first (k .before)) .pre .2))
     (λ c. search needs) (λ c. search needs)
     (λ c. let v = c .before .before .before in let e = v .before in let m = e .before in let r = read (m .before .before) in
-    then-got _ (r .0) (then-got _ (r .1) (check-yes 18 (ap not (m .masks-overlap .ensures)) (ap not (e .if1 .left))
-    (then-got _ (told saysValues (c .before .values .given .1) (v .read-values .ensures)) refl))))
+    rw (← r .0, ← r .1, ← m .masks-overlap .ensures, e .if1 .left, ← v .read-values .ensures, c .before .values .given .1))
     (λ c. let v = c .before .before .before in let e = v .before in let m = e .before in let r = read (m .before .before) in
-    then-got _ (r .0) (then-got _ (r .1) (check-yes 18 (ap not (m .masks-overlap .ensures)) (ap not (e .if1 .left))
-    (then-fails _ (told saysValues (c .before .k .given .1) (v .read-values .ensures)))))))
+    rw (← r .0, ← r .1, ← m .masks-overlap .ensures, e .if1 .left, ← v .read-values .ensures, c .before .k .given .1)))
