@@ -54,9 +54,7 @@ returns c =
 pub one-from-spec : {M : Type 1} → statement M
 one-from-spec =
     tie.close
-    (tie.spec
-    Inv-loop
-    μ-loop
+    (tie.spec Inv-loop μ-loop
     (λ c. (c .before .pre .1, refl))
     (λ c κs. (start c .pre .0, c .loop .inv .0))
     (λ c. search needs) (λ c. search needs)

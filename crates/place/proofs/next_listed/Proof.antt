@@ -46,16 +46,12 @@ pub next-listed-spec : {M : Type 1} → statement M
 next-listed-spec =
     tie.close
     (tie.spec
-    (λ c κs. search needs)
-    (λ c. search needs) (λ c. search needs) (λ c. search needs)
-    (λ c κs. search needs)
+    (λ c κs. search needs) (λ c. search needs) (λ c. search needs) (λ c. search needs) (λ c κs. search needs)
     (λ c κs. mask-there _ _ (start (piece c) .pre) _ (there (piece c)) (c .mask-bytes .ensures .0))
     (λ c. search needs)
     (λ c. let o = c .before .before in let m = o .before in
     listed-here _ _ (start (piece m) .pre) _ (there (piece m)) (m .mask-bytes .ensures .0) (told saysNext (c .enum-told2 .given .1) (o .next-one .ensures)))
-    (λ c. search needs)
-    (λ c κs. search needs)
-    (λ c. search needs) (λ c. search needs) (λ c. search needs)
+    (λ c. search needs) (λ c κs. search needs) (λ c. search needs) (λ c. search needs) (λ c. search needs)
     (λ c. let a = c .before .before in listed-none _ _ (a .before .before .pre) _ refl (told (saysPiece _ _) (c .enum-told .given .1) (a .next-piece .ensures)))
     (λ c. let a = c .before .before .before in listed-none _ _ (a .before .before .pre) _ refl (told (saysPiece _ _) (c .before .k .given .1) (a .next-piece .ensures)))
     (λ c. let k = c .before .before in found _ _ (start (q k) .pre) _ (told saysSkip (c .enum-told4 .given .1) (k .skip .ensures)) (few k) ∙ behind k)

@@ -38,10 +38,7 @@ module _ (r : tie.After-tile-count) where
       (then-got _ (told saysU32 (q .background .given .1) (q .before .before .read-u32 .ensures))
       (then-got _ (told saysU32 (r .tile-count .given .1) (r .before .before .read-u322 .ensures)) e))
 
--- the number of roots, from behind the tiles
-abbrev roots : tie.After-read-tiles → tie.After-root-count
-roots c = c .before .before
-
+-- back to them from the number of roots
 abbrev counted : tie.After-read-root-count → tie.After-tile-count
 counted c = c .before .before
 
@@ -54,7 +51,7 @@ read-tree-head-spec =
     (λ c κs. search needs) (λ c. search needs) (λ c. search needs) (λ c. search (steps, then-by saysCount, then-by saysU32) depth 6)
     (λ c κs. search needs) (λ c. search needs) (λ c. search needs) (λ c κs. search needs) (λ c. search needs) (λ c. search needs)
     (λ c. let n = c .before .before .before in behind (counted n) (then-fails _ (told saysCount (c .before .k2 .given .1) (n .read-root-count .ensures))))
-    (λ c. let i = c .before .before in let t = roots i in let n = t .before .before in
+    (λ c. let i = c .before .before in let t = i .before .before in let n = t .before .before in
     behind (counted n) (then-got _ (told saysCount (t .root-count .given .1) (n .read-root-count .ensures)) (then-fails _ (told saysTiles (c .enum-told3 .given .1) (i .read-tiles .ensures)))))
-    (λ c. let i = c .before .before .before in let t = roots i in let n = t .before .before in
+    (λ c. let i = c .before .before .before in let t = i .before .before in let n = t .before .before in
     behind (counted n) (then-got _ (told saysCount (t .root-count .given .1) (n .read-root-count .ensures)) (then-got _ (told saysTiles (c .before .n .given .1) (i .read-tiles .ensures)) refl))))

@@ -37,9 +37,7 @@ joined c = c .before .before
 pub pass-piece-spec : {M : Type 1} → statement M
 pass-piece-spec =
     tie.close
-    (tie.spec
-    (λ c κs. search needs)
-    (λ c. search needs) (λ c. search needs) (λ c. search needs)
+    (tie.spec (λ c κs. search needs) (λ c. search needs) (λ c. search needs) (λ c. search needs)
     (λ c. let j = c .before .before in leaf-missing _ _ (start (asked (q j)) .args .t) (there (q j)) (leaf j) (c .if2 .taken))
     (λ c κs. let n = q (joined c) in let s = start (asked n) in held-there _ _ (s .args .t) (there n) (s .pre) .held .value-mask)
     (λ c. search needs)

@@ -41,14 +41,11 @@ module _ (n : tie.After-p Inv-loop μ-loop) where
 
 -- its mask
 module _ (k : tie.After-span Inv-loop μ-loop) where
-  abbrev read : tie.After-read-bytes Inv-loop μ-loop
-  read = k .before .before
-
   abbrev place : tie.After-p Inv-loop μ-loop
-  place = read .before .before
+  place = k .before .before .before .before
 
   mask-read : got (k .span .given .0 .0) (k .span .given .0 .1 .0) ≡ bytesField (start place .args .s .now) 64 (loop place .loop .at)
-  mask-read = told saysSpan (k .span .given .1) (read .read-bytes .ensures)
+  mask-read = told saysSpan (k .span .given .1) (k .before .before .read-bytes .ensures)
 
 -- back to it, and from behind the leaf
 abbrev mask : tie.Else1 Inv-loop μ-loop → tie.After-span Inv-loop μ-loop
@@ -68,14 +65,10 @@ loop-again c =
 pub run-leaves-spec : {M : Type 1} → statement M
 run-leaves-spec =
     tie.close
-    (tie.spec
-    Inv-loop
-    μ-loop
+    (tie.spec Inv-loop μ-loop
     (λ c. begins _ _ _ _ _ (c .before .pre .1))
     (λ c κs. child-mask (c .before .loop .inv))
-    (λ c. search needs) (λ c. search needs)
-    (λ c κs. search needs)
-    (λ c. search needs) (λ c. search needs)
+    (λ c. search needs) (λ c. search needs) (λ c κs. search needs) (λ c. search needs) (λ c. search needs)
     (λ c κs. whole-mask _ _ 64 refl (lit≤ tt) (mask-read (c .before)))
     (λ c. search needs)
     (λ c κs. let n = place (mask c) in (search needs, place-below (loop n .loop .inv) (next n), multiple (loop n .loop .inv)))

@@ -48,13 +48,10 @@ pub run-node4-spec : {M : Type 1} → statement M
 run-node4-spec =
     tie.close
     (tie.spec
-    (λ c κs. search needs)
-    (λ c. search needs) (λ c. search needs)
-    (λ c. ran-none _ _ _)
+    (λ c κs. search needs) (λ c. search needs) (λ c. search needs) (λ c. ran-none _ _ _)
     (λ c κs. let a = start (c .before) in (search needs, below5 _ (a .args .c) _ (a .pre .1) (a .pre .2), multiple5 _ (a .args .c) _ (a .pre .1)))
     (λ c κs. let a = start (head c) in let o = c .offset-to-global-coord .ensures in (a .pre .0, node4-in _ _ _ (a .pre .1) (a .pre .2) (header (head c)) (o .0) (o .1)))
-    (λ c κs. child-mask (c .run-leaves .ensures))
-    (λ c. search needs)
+    (λ c κs. child-mask (c .run-leaves .ensures)) (λ c. search needs)
     (λ c κs. let o = c .before .before .before .before in let a = start (head o) in value-mask4 _ _ _ (a .pre .1) (a .pre .2) (header (head o)) (o .offset-to-global-coord .ensures .0))
     (λ c. search needs)
     returns-2

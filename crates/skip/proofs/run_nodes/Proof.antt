@@ -28,14 +28,11 @@ start c = c .before .before
 
 -- the next 4-node's place
 module _ (n : tie.After-p Inv-loop μ-loop) where
-  abbrev asked : tie.After-next-one Inv-loop μ-loop
-  asked = n .before .before
-
   abbrev l : tie.At-loop Inv-loop μ-loop
-  l = turn (asked .before)
+  l = turn (n .before .before .before)
 
   next : let w = l .loop .t .cursor .node5 in some (n .p .given .0 .0 .0) ≡ nextOne (maskBit (start l .args .s .now) (w .pos)) 32768 (w .next)
-  next = told saysNext (n .p .given .1) (asked .next-one .ensures)
+  next = told saysNext (n .p .given .1) (n .before .before .next-one .ensures)
 
   below : n .p .given .0 .0 .0 < 32768
   below = below5 _ (start l .args .c) _ (l .loop .inv .0) next
@@ -50,28 +47,17 @@ ran c = c .before .before .before .before
 abbrev place : tie.After-run-node4 Inv-loop μ-loop → tie.After-p Inv-loop μ-loop
 place c = c .before .before
 
-loop-again : tie.Need-loop-again Inv-loop μ-loop
-loop-again c =
-    let r = ran (c .before) in
-    let n = place r in
-    let i = l n .loop .inv in
-    goes-on _ _ _ (i .0) (next n) (i .1) (subst (nodeRan _ _ _ _) (c .before .before .before .at .given .1) (r .run-node4 .ensures)) (c .in-node5 .ensures)
-
 pub run-nodes-spec : {M : Type 1} → statement M
 run-nodes-spec =
     tie.close
-    (tie.spec
-    Inv-loop
-    μ-loop
+    (tie.spec Inv-loop μ-loop
     (λ c. (c .before .pre .1, ran-none _ _ _))
     (λ c κs. child-mask5 _ (start (turn c) .args .c) _ (turn c .loop .inv .0))
-    (λ c. search needs) (λ c. search needs)
-    (λ c. search needs)
+    (λ c. search needs) (λ c. search needs) (λ c. search needs)
     (λ c κs. let n = c .before in (start (l n) .pre .0, l n .loop .inv .0, next n))
     (λ c. search needs)
     (λ c. let r = c .before .before .before in ran-on (l (place r) .loop .inv .1) (subst (nodeRan _ _ _ _) (c .before .r .given .1) (r .run-node4 .ensures)))
-    (λ c. search needs)
-    (λ c. omega (arith, below (place (ran c))))
-    (λ c κs. search needs)
+    (λ c. search needs) (λ c. omega (arith, below (place (ran c)))) (λ c κs. search needs)
     (λ c. let n = place (ran (c .before)) in rw (c .in-node5 .ensures) (omega (arith, below n, later n)))
-    loop-again)
+    (λ c. let r = ran (c .before) in let n = place r in let i = l n .loop .inv in
+    goes-on _ _ _ (i .0) (next n) (i .1) (subst (nodeRan _ _ _ _) (c .before .before .before .at .given .1) (r .run-node4 .ensures)) (c .in-node5 .ensures)))

@@ -57,23 +57,17 @@ returns c o =
     let l = n .before in
     ones-none _ (bits l) 32768 (l .loop .from) _ (told saysNext (c .enum-told .given .1) (n .next-one .ensures)) ∙ l .loop .inv .1 o
 
-returns-2 : tie.Need-returns-2 Inv-loop μ-loop
-returns-2 c o =
-    let p = c .before .before .before in
-    let n = place p in
-    ones-fails _ (bits (l n)) 32768 _ _ (next n) (told saysEnd (c .before .k .given .1) (p .pass-node4 .ensures _)) ∙ l n .loop .inv .1 o
-
-loop-again : tie.Need-loop-again Inv-loop μ-loop
-loop-again c =
-    let n = place (passed c) in (
-      omega (arith, below n),
-      λ o. ones-more _ (bits (l n)) 32768 _ _ (next n) (told saysEnd (c .before .before .q .given .1) (passed c .pass-node4 .ensures _)) ∙ l n .loop .inv .1 o,
-    )
-
 pub pass-nodes-spec : {M : Type 1} → statement M
 pass-nodes-spec =
     tie.close
     (tie.spec Inv-loop μ-loop (λ c. (search needs, λ o. refl)) (λ c κs. (start c .pre .1, c .loop .inv .0))
     (λ c. search needs) (λ c. search needs) returns (λ c κs. start (l (c .before)) .pre .0)
-    (λ c. search needs) returns-2 (λ c. search needs) (λ c. omega (arith, below (place (passed c))))
-    (λ c. let n = place (passed c) in omega (arith, below n, later n)) loop-again)
+    (λ c. search needs)
+    (λ c o. let p = c .before .before .before in let n = place p in
+    ones-fails _ (bits (l n)) 32768 _ _ (next n) (told saysEnd (c .before .k .given .1) (p .pass-node4 .ensures _)) ∙ l n .loop .inv .1 o)
+    (λ c. search needs) (λ c. omega (arith, below (place (passed c))))
+    (λ c. let n = place (passed c) in omega (arith, below n, later n))
+    (λ c. let n = place (passed c) in (
+      omega (arith, below n),
+      λ o. ones-more _ (bits (l n)) 32768 _ _ (next n) (told saysEnd (c .before .before .q .given .1) (passed c .pass-node4 .ensures _)) ∙ l n .loop .inv .1 o,
+    )))

@@ -64,15 +64,11 @@ loop-again c =
           ∙ l n .loop .inv .2,
     )
 
-returns-3 : tie.Need-returns-3 Inv-loop μ-loop
-returns-3 c =
-    let l = c .before in
-    roots-none _ _ (l .loop .i) (start l .args .count) _ _ (omega arith) ∙ l .loop .inv .2
-
 pub pass-roots-spec : {M : Type 1} → statement M
 pass-roots-spec =
     tie.close
     (tie.spec Inv-loop μ-loop
     (λ c. let e : c .before .args .count - 0 ≡ c .before .args .count = omega arith in (search needs, refl, rw e))
     (λ c. search needs) (λ c κs. search needs) (λ c. search needs) returns (λ c. search needs) (λ c κs. start (l (c .before)) .pre .0) (λ c. search needs) returns-2
-    (λ c. search needs) (λ c. search needs) (λ c. search needs) (λ c. search needs) (λ c. search needs) loop-again returns-3)
+    (λ c. search needs) (λ c. search needs) (λ c. search needs) (λ c. search needs) (λ c. search needs) loop-again
+    (λ c. let l = c .before in roots-none _ _ (l .loop .i) (start l .args .count) _ _ (omega arith) ∙ l .loop .inv .2))
