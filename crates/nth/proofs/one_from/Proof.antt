@@ -21,46 +21,46 @@ abbrev μ-loop : tie.MeasureT-loop
 abbrev bits : tie.Start Inv-loop μ-loop → ℕ → Bool
 bits p = maskBit (p .args .s .now) (p .args .at)
 
--- the next one
-module _ (n : tie.After-known-told Inv-loop μ-loop) where
-  abbrev loop : tie.At-loop Inv-loop μ-loop
-  loop = n .before .before .before .before
+abbrev start : tie.At-loop Inv-loop μ-loop → tie.Start Inv-loop μ-loop
+start c = c .before .before
 
-  abbrev start : tie.Start Inv-loop μ-loop
-  start = loop .before .before
+-- the next one, where it was asked for, and its turn of the loop
+module _ (n : tie.After-q Inv-loop μ-loop) where
+  abbrev l : tie.At-loop Inv-loop μ-loop
+  l = n .before .before .before
 
-  next : some (n .before .q .given .0 .0 .0) ≡ nextOne (bits start) (8 * start .args .n) (loop .loop .p)
-  next = told saysNext (n .before .q .given .1) (n .before .before .before .next-one .ensures)
+  abbrev places : ℕ
+  places = 8 * start l .args .n
 
-  below : n .before .q .given .0 .0 .0 < 8 * start .args .n
-  below = next-below (bits start) (8 * start .args .n) (loop .loop .p) _ _ (loop .loop .inv .1) _ next
+  next : some (n .q .given .0 .0 .0) ≡ nextOne (bits (start l)) places (l .loop .p)
+  next = told saysNext (n .q .given .1) (n .before .before .next-one .ensures)
 
-  behind : loop .loop .p ≤ n .before .q .given .0 .0 .0
-  behind = next-behind (bits start) (8 * start .args .n) (loop .loop .p) _ _ (loop .loop .inv .1) _ next
+  below : n .q .given .0 .0 .0 < places
+  below = next-below (bits (start l)) places (l .loop .p) _ _ (l .loop .inv .1) _ next
+
+  behind : l .loop .p ≤ n .q .given .0 .0 .0
+  behind = next-behind (bits (start l)) places (l .loop .p) _ _ (l .loop .inv .1) _ next
+
+abbrev passed : tie.After-struct-known Inv-loop μ-loop → tie.After-q Inv-loop μ-loop
+passed c = c .before .before .before
 
 returns : tie.Need-returns Inv-loop μ-loop
 returns c =
-    let l = c .before .before .before in
-    let a = l .before .before in
-    absurd (one-missing (bits a) (8 * a .args .n) (l .loop .p) _ _ (l .loop .inv .1) (l .loop .inv .0) (a .pre .2)
-    (told saysNext (c .enum-told .given .1) (c .before .before .next-one .ensures)))
+    let o = c .before .before in
+    let l = o .before in
+    let a = start l in
+    absurd (one-missing (bits a) (8 * a .args .n) (l .loop .p) _ _ (l .loop .inv .1) (l .loop .inv .0) (a .pre .2) (told saysNext (c .enum-told .given .1) (o .next-one .ensures)))
 
 pub one-from-spec : {M : Type 1} → statement M
 one-from-spec =
     tie.close
-    (tie.spec
-    Inv-loop
-    μ-loop
+    (tie.spec Inv-loop μ-loop
     (λ c. (c .before .pre .1, refl))
-    (λ c κs. (c .before .before .pre .0, c .loop .inv .0))
-    (λ c. search needs)
-    (λ c. search needs)
+    (λ c κs. (start c .pre .0, c .loop .inv .0))
+    (λ c. search needs) (λ c. search needs)
     returns
-    (λ c. one-here (bits (start (c .before))) _ (loop (c .before) .loop .p) _ _ (loop (c .before) .loop .inv .1) _ (next (c .before)) (c .if1 .taken))
+    (λ c. let n = c .before .before in one-here (bits (start (l n))) _ (l n .loop .p) _ _ (l n .loop .inv .1) _ (next n) (c .if1 .taken))
     (λ c. search needs)
-    (λ c. omega (arith, below (c .before .before), start (c .before .before) .pre .0 .small))
-    (λ c. omega (arith, below (c .before .before), behind (c .before .before)))
-    (λ c. (
-      omega (arith, below (c .before .before)),
-      one-on (bits (start (c .before .before))) _ (loop (c .before .before) .loop .p) _ _ (loop (c .before .before) .loop .inv .1) _ (next (c .before .before)) (c .before .if1 .left),
-    )))
+    (λ c. let n = passed c in omega (arith, below n, start (l n) .pre .0 .small))
+    (λ c. let n = passed c in omega (arith, below n, behind n))
+    (λ c. let n = passed c in (omega (arith, below n), one-on (bits (start (l n))) _ (l n .loop .p) _ _ (l n .loop .inv .1) _ (next n) (c .before .if1 .left))))

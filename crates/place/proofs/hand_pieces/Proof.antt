@@ -20,23 +20,23 @@ Inv-loop table s c limit x₀ y₀ z₀ level₀ value₀ at₀ x y z level valu
 abbrev μ-loop : tie.MeasureT-loop
 μ-loop table s c limit x₀ y₀ z₀ level₀ value₀ at₀ x y z level value at = length (listingFrom s c (at .cursor))
 
-abbrev filled : tie.After-known-told Inv-loop μ-loop → tie.After-fill-piece Inv-loop μ-loop
-filled c = c .before .before .before .before .before .before .before .before .before .before .before .before
+-- back from the call that hands a piece out to its turn of the loop, from there to the function's start, and to that call from behind it
+abbrev turn : tie.After-fill-piece-arg5 Inv-loop μ-loop → tie.At-loop Inv-loop μ-loop
+turn c = c .before .before .before .before .before .before
 
-abbrev filled-last : tie.After-stopped Inv-loop μ-loop → tie.After-fill-piece Inv-loop μ-loop
-filled-last c = c .before .before .before .before .before .before .before .before .before .before .before .before
+abbrev start : tie.At-loop Inv-loop μ-loop → tie.Start Inv-loop μ-loop
+start c = c .before .before .before .before .before
 
--- the next turn
-turn : tie.Need-loop-again Inv-loop μ-loop
-turn c =
-    let p = filled c in
-    let l = p .before .before .before .before .before .before .before .loop in
-    let f = p .fill-piece .ensures in (
-      room-same (fills-same f (same _)) (l .inv .0),
-      fills-same f (l .inv .1),
-      goes-next _ _ _ (l .at .cursor) (l .at .inside) f (l .inv .2) (p .before .before .before .before .before .before .before .before .before .before .before .before .pre .1)
-          (told saysStand (c .before .next .given .1) (c .before .before .before .next-stand .ensures)) .0,
-    )
+abbrev filled : tie.After-before2 Inv-loop μ-loop → tie.After-fill-piece Inv-loop μ-loop
+filled c = c .before .before .before .before .before .before .before .before
+
+-- there the slots are as many as were lent; and the same from the function's end
+kept : (c : tie.After-before2 Inv-loop μ-loop) → let a = start (turn (filled c .before)) .args in let t = filled c .fill-piece .last .1 .1 .1 .1 .1 .1 in
+    Same (slotsOf (t .0) (t .1 .0) (t .1 .1 .0) (t .1 .1 .1 .0) (t .1 .1 .1 .1 .0)) (slotsOf (a .x .now) (a .y .now) (a .z .now) (a .level .now) (a .value .now))
+kept c = fills-same (filled c .fill-piece .ensures) (turn (filled c .before) .loop .inv .1)
+
+abbrev last : tie.After-stopped Inv-loop μ-loop → tie.After-before2 Inv-loop μ-loop
+last c = c .before .before .before .before
 
 pub hand-pieces-spec : {M : Type 1} → statement M
 hand-pieces-spec =
@@ -45,22 +45,17 @@ hand-pieces-spec =
     Inv-loop
     μ-loop
     (λ c. let p = c .before .before .before .before .pre in (p .2, same _, comes _ _ _ _ _ _))
-    (λ c κs. let p = c .before .before .before .before .before .before .before .before .before .before .before .pre in (p .0, p .1, c .before .before .before .before .before .before .loop .inv .0))
-    (λ c κs. c .before .before .before .before .before .before .before .before .before .before .before .before .before .before .before .before .before .before .before .before .pre .1)
+    (λ c κs. let p = start (turn c) .pre in (p .0, p .1, turn c .loop .inv .0))
+    (λ c κs. start (turn (filled c .before)) .pre .1)
     (λ c. search needs)
-    (λ c.
-    let p = filled c in
-    let l = p .before .before .before .before .before .before .before .loop in
-    goes-next _ _ _ (l .at .cursor) (l .at .inside) (p .fill-piece .ensures) (l .inv .2) (p .before .before .before .before .before .before .before .before .before .before .before .before .pre .1)
-    (told saysStand (c .before .next .given .1) (c .before .before .before .next-stand .ensures)) .1)
-    turn
+    (λ c. let n = c .before .before .before in let p = filled (n .before) in let t = turn (p .before) in let l = t .loop in
+    goes-next _ _ _ (l .at .cursor) (l .at .inside) (p .fill-piece .ensures) (l .inv .2) (start t .pre .1) (told saysStand (c .before .next .given .1) (n .next-stand .ensures)) .1)
+    (λ c. let n = c .before .before .before in let p = filled (n .before) in let t = turn (p .before) in let l = t .loop in let f = p .fill-piece .ensures in (
+      room-same (fills-same f (same _)) (l .inv .0),
+      kept (n .before),
+      goes-next _ _ _ (l .at .cursor) (l .at .inside) f (l .inv .2) (start t .pre .1) (told saysStand (c .before .next .given .1) (n .next-stand .ensures)) .0,
+    ))
     (λ c. search needs)
-    (λ c. let p = filled-last c in fills-same (p .fill-piece .ensures) (p .before .before .before .before .before .before .before .loop .inv .1) .in-x)
-    (λ c. let p = filled-last c in fills-same (p .fill-piece .ensures) (p .before .before .before .before .before .before .before .loop .inv .1) .in-y)
-    (λ c. let p = filled-last c in fills-same (p .fill-piece .ensures) (p .before .before .before .before .before .before .before .loop .inv .1) .in-z)
-    (λ c. let p = filled-last c in fills-same (p .fill-piece .ensures) (p .before .before .before .before .before .before .before .loop .inv .1) .in-level)
-    (λ c. let p = filled-last c in fills-same (p .fill-piece .ensures) (p .before .before .before .before .before .before .before .loop .inv .1) .in-value)
-    (λ c.
-    let p = filled-last c in
-    let l = p .before .before .before .before .before .before .before .loop in
+    (λ c. kept (last c) .in-x) (λ c. kept (last c) .in-y) (λ c. kept (last c) .in-z) (λ c. kept (last c) .in-level) (λ c. kept (last c) .in-value)
+    (λ c. let p = filled (last c) in let l = turn (p .before) .loop in
     stops-so _ _ _ (l .at .cursor) (l .at .inside) (p .fill-piece .ensures) (l .inv .2) (told saysStand (c .before .enum-told .given .1) (c .before .before .before .next-stand .ensures))))

@@ -1,82 +1,74 @@
 -- One call of the core. Of the five slices one is cut to the number of records that is asked for: the shortest counts.
 use borrow.Author.Needs.{needs}
 use mathlib.Core.Path.{_≡_, sym}
-use mathlib.Core.List.{List, []}
+use mathlib.Core.List.{List, [], _++_}
 use Prim.Native.Nat.{ℕ, _-_, _≤_, min}
 use native.Mathlib.Omega.{arith}
-use lib.ListN.{length, take}
-use Rattle.walk.specs.declared.Walked.{Walked}
-use Rattle.walk.specs.declared.WalkAnswer.the-variants.{Walked as HasWalked}
+use lib.ListN.{length, take, drop}
 use Rattle.rows.proofs.Portions.{zeros, scratch-back, cut-count, lent-count, lent-long, few-slots, sum-fits, walked-few, walked, refused}
 use Rattle.rows.proofs.next_portion.Statement.{statement}
 use Rattle.rows.proofs.next_portion.Tie as tie
 
--- from the call back to the start, and to its size
-abbrev start : tie.After-walk → tie.Start
-start c = c .before .before .before .before .before .before .before .before .before
+-- the call, its size, and the slice that was cut, after it
+abbrev sized : tie.After-value → tie.After-portion-size
+sized c = c .before .before .before .before .before
 
-abbrev past : tie.After-walk → Walked
-past c = start c .args .past
+module _ (c : tie.After-walk) where
+  abbrev start : tie.Start
+  start = sized (c .before) .before .before .before
 
-abbrev slots : tie.After-walk → ℕ
-slots c = start c .args .slots
+  abbrev size : ℕ
+  size = sized (c .before) .portion-size .result
 
-abbrev size : tie.After-walk → ℕ
-size c = c .before .before .before .before .before .before .portion-size .result
+  abbrev value : List ℕ
+  value = c .walk .last .1 .1 .1 .1 .1 .1 .0
 
-sized : (c : tie.After-walk) → size c ≡ min 64 (slots c - past c .filled)
-sized c = c .before .before .before .before .before .before .portion-size .ensures
+  kept : length value ≡ length (take size zeros)
+  kept = c .walk .kept .1 .1 .1 .1 .1 .1 .0
 
--- the slice that was cut, after the call
-abbrev value : tie.After-walk → List ℕ
-value c = c .walk .last .1 .1 .1 .1 .1 .1 .0
+  back : length (value ++ drop size zeros) ≡ 64
+  back = scratch-back size value kept
 
-kept : (c : tie.After-walk) → length (value c) ≡ length (take (size c) zeros)
-kept c = c .walk .kept .1 .1 .1 .1 .1 .1 .0
+-- from behind the call back to it; to its answer, from where it is counted and from the next call, and to its refusal from there
+abbrev called : tie.After-value2 → tie.After-walk
+called c = c .before .before .before .before .before
 
-handed : (c : tie.After-walk) (v : Walked) → c .walk .result ≡ HasWalked v → v .filled ≤ min 64 (slots c - past c .filled)
-handed c v e = walked-few (start c .args .s .now) (past c) (slots c) _ _ [] (lent-count (size c) _ (sized c)) (c .walk .ensures) e
+abbrev answer : tie.After-struct-known2 → tie.After-w
+answer c = c .before .before .before .before
 
--- from each need back to the call
-abbrev called-1 : tie.After-struct-known2 → tie.After-walk
-called-1 c = c .before .before .before .before .before .before .before .before .before .before .before
+abbrev counted : tie.After-level3 → tie.After-w
+counted c = answer (c .before .before .before .before)
 
-abbrev called-2 : tie.After-value3 → tie.After-walk
-called-2 c = c .before .before .before .before .before .before .before .before .before .before .before .before .before .before .before .before
+abbrev refusal : tie.After-value4 → tie.After-k
+refusal c = c .before .before .before .before .before .before
 
-abbrev called-3 : tie.After-in-a-row → tie.After-walk
-called-3 c = c .before .before .before .before .before .before .before .before .before .before .before .before .before .before .before .before .before
+-- the call that gave the answer, and how many records it handed out
+module _ (c : tie.After-w) where
+  abbrev call : tie.After-walk
+  call = called (c .before .before)
 
-abbrev called-4 : tie.After-value4 → tie.After-walk
-called-4 c = c .before .before .before .before .before .before .before .before .before .before .before .before .before
-
-abbrev called-5 : tie.After-ended → tie.After-walk
-called-5 c = c .before .before .before .before .before .before .before .before .before .before .before .before .before .before .before
-
-sum : tie.Need-add-t29
-sum c =
-    let a = called-1 c in
-    record { fits = sum-fits (past a .filled) _ (slots a) (handed a _ (c .before .before .before .before .w .given .1)) (start a .fits .slots .fits) (omega arith) }
+  handed : let a = start call .args in c .w .given .0 .0 .filled ≤ min 64 (a .slots - a .past .filled)
+  handed =
+      let a = start call .args in
+      walked-few (a .s .now) (a .past) (a .slots) _ _ [] (lent-count (size call) _ (sized (call .before) .portion-size .ensures)) (call .walk .ensures) (c .w .given .1)
 
 few : tie.Need-in-a-row-requires
-few c κs =
-    let a = called-2 c in
-    let k = a .walk .kept .1 .1 in
-    few-slots _ _ _ _ _ _ _ (handed a _ (c .before .before .before .before .before .before .before .before .before .w .given .1)) (k .0) (k .1 .0) (k .1 .1 .0) (k .1 .1 .1 .0)
-    (scratch-back (size a) (value a) (kept a))
+few c κs = let w = counted (c .before) in let k = call w .walk .kept .1 .1 in few-slots _ _ _ _ _ _ _ (handed w) (k .0) (k .1 .0) (k .1 .1 .0) (k .1 .1 .1 .0) (back (call w))
 
 returns : tie.Need-returns
 returns c =
-    let a = called-3 c in
-    walked (start a .args .s .now) (past a) (slots a) _ _ (c .in-a-row .result) (lent-count (size a) _ (sized a)) _ (a .walk .ensures)
-    (c .before .before .before .before .before .before .before .before .before .before .w .given .1)
-    (lent-long (size a) _ (value a) (sized a) (kept a)) (c .in-a-row .ensures)
+    let w = counted (c .before .before) in
+    let k = call w in
+    let a = start k .args in
+    let e = sized (k .before) .portion-size .ensures in
+    walked (a .s .now) (a .past) (a .slots) _ _ (c .in-a-row .result) (lent-count (size k) _ e) _ (k .walk .ensures) (w .w .given .1) (lent-long (size k) _ (value k) e (kept k)) (c .in-a-row .ensures)
 
 returns-2 : tie.Need-returns-2
 returns-2 c =
-    let a = called-5 c in
-    refused (start a .args .s .now) (past a) (slots a) _ _ (c .before .in-a-row2 .result) (lent-count (size a) _ (sized a)) (a .walk .ensures)
-    (c .before .before .before .before .before .before .before .before .k .given .1) (c .ended .ensures)
+    let r = refusal (c .before .before) in
+    let k = called (r .before .before) in
+    let a = start k .args in
+    refused (a .s .now) (a .past) (a .slots) _ _ (c .before .in-a-row2 .result) (lent-count (size k) _ (sized (k .before) .portion-size .ensures)) (k .walk .ensures) (r .k .given .1) (c .ended .ensures)
 
 pub next-portion-spec : {M : Type 1} → statement M
 next-portion-spec =
@@ -84,18 +76,18 @@ next-portion-spec =
     (tie.spec
     (λ c κs. search needs)
     (λ c. search needs) (λ c. search needs) (λ c. search needs) (λ c. search needs) (λ c. search needs)
-    (λ c. cut-count _ _ (c .before .before .before .before .before .portion-size .ensures))
+    (λ c. cut-count _ _ (sized c .portion-size .ensures))
     (λ c κs. search needs)
     (λ c. search needs)
-    sum
-    (λ c. sym (called-1 (c .before) .walk .kept .1 .1 .0))
-    (λ c. sym (called-1 (c .before .before) .walk .kept .1 .1 .1 .0))
-    (λ c. sym (called-1 (c .before .before .before) .walk .kept .1 .1 .1 .1 .0))
-    (λ c. sym (called-1 (c .before .before .before .before) .walk .kept .1 .1 .1 .1 .1 .0))
-    (λ c. let a = called-2 c in sym (scratch-back (size a) (value a) (kept a)))
+    (λ c. let w = answer c in let s = start (call w) in record { fits = sum-fits (s .args .past .filled) _ (s .args .slots) (handed w) (s .fits .slots .fits) (omega arith) })
+    (λ c. sym (call (answer (c .before)) .walk .kept .1 .1 .0))
+    (λ c. sym (call (answer (c .before .before)) .walk .kept .1 .1 .1 .0))
+    (λ c. sym (call (answer (c .before .before .before)) .walk .kept .1 .1 .1 .1 .0))
+    (λ c. sym (call (counted c) .walk .kept .1 .1 .1 .1 .1 .0))
+    (λ c. sym (back (call (counted (c .before)))))
     few
     (λ c. search needs)
     (λ c. search needs) (λ c. search needs) (λ c. search needs) (λ c. search needs)
-    (λ c. let a = called-4 c in sym (scratch-back (size a) (value a) (kept a)))
+    (λ c. sym (back (called (refusal c .before .before))))
     (λ c κs. search needs) (λ c κs. search needs)
     returns returns-2)

@@ -25,58 +25,57 @@ Inv-loop s c origin child next₀ at₀ block₀ records₀ leaves₀ next at bl
 abbrev μ-loop : tie.MeasureT-loop
 μ-loop s c origin child next₀ at₀ block₀ records₀ leaves₀ next at block records leaves = leaves
 
-abbrev start : tie.At-loop Inv-loop μ-loop → tie.Start Inv-loop μ-loop
-start l = l .before .before
+-- the next leaf's place, and its turn of the loop
+module _ (n : tie.After-p Inv-loop μ-loop) where
+  abbrev asked : tie.After-next-one Inv-loop μ-loop
+  asked = n .before .before
 
--- the next leaf's place
-module _ (n : tie.After-known-told Inv-loop μ-loop) where
   abbrev loop : tie.At-loop Inv-loop μ-loop
-  loop = n .before .before .before .before .before
+  loop = asked .before .before
 
-  next : some (n .before .p .given .0 .0 .0) ≡ nextOne (maskBit (start loop .args .s .now) (start loop .args .child)) 4096 (loop .loop .next)
-  next = told saysNext (n .before .p .given .1) (n .before .before .before .next-one .ensures)
+  abbrev start : tie.Start Inv-loop μ-loop
+  start = loop .before .before
+
+  next : some (n .p .given .0 .0 .0) ≡ nextOne (maskBit (start .args .s .now) (start .args .child)) 4096 (loop .loop .next)
+  next = told saysNext (n .p .given .1) (asked .next-one .ensures)
 
 -- its mask
-module _ (k : tie.After-known-told2 Inv-loop μ-loop) where
-  abbrev placed : tie.After-known-told Inv-loop μ-loop
-  placed = k .before .before .before .before
+module _ (k : tie.After-span Inv-loop μ-loop) where
+  abbrev place : tie.After-p Inv-loop μ-loop
+  place = k .before .before .before .before
 
-  mask-read : got (k .before .span .given .0 .0) (k .before .span .given .0 .1 .0) ≡ bytesField (start (loop placed) .args .s .now) 64 (loop placed .loop .at)
-  mask-read = told saysSpan (k .before .span .given .1) (k .before .before .before .read-bytes .ensures)
+  mask-read : got (k .span .given .0 .0) (k .span .given .0 .1 .0) ≡ bytesField (start place .args .s .now) 64 (loop place .loop .at)
+  mask-read = told saysSpan (k .span .given .1) (k .before .before .read-bytes .ensures)
 
--- the leaf is passed
-passed : tie.Need-loop-again Inv-loop μ-loop
-passed c =
-    let o = c .before .before .before .before .before in
-    let k = o .before .before .before in
-    let l = placed k .before .before .before .before in
-    leaf-on (l .before .loop .inv) (next (placed k)) (mask-read k) (o .offset-to-global-coord .ensures .0) (o .before .before .count-ones .ensures) (o .before .if1 .left) (l .loop-test .taken)
-    (told saysEnd (c .before .before .r .given .1) (c .before .before .before .before .pass-block .ensures))
+-- back to it, and from behind the leaf
+abbrev mask : tie.Else1 Inv-loop μ-loop → tie.After-span Inv-loop μ-loop
+mask c = c .before .before .before
+
+abbrev passed : tie.After-struct-known Inv-loop μ-loop → tie.After-pass-block Inv-loop μ-loop
+passed c = c .before .before .before .before
+
+loop-again : tie.Need-loop-again Inv-loop μ-loop
+loop-again c =
+    let o = passed c .before in
+    let e = o .before in
+    let n = place (mask e) in
+    leaf-on (loop n .loop .inv) (next n) (mask-read (mask e)) (o .offset-to-global-coord .ensures .0) (e .before .count-ones .ensures) (e .if1 .left) (asked n .before .loop-test .taken)
+    (told saysEnd (c .before .before .r .given .1) (passed c .pass-block .ensures))
 
 pub run-leaves-spec : {M : Type 1} → statement M
 run-leaves-spec =
     tie.close
-    (tie.spec
-    Inv-loop
-    μ-loop
+    (tie.spec Inv-loop μ-loop
     (λ c. begins _ _ _ _ _ (c .before .pre .1))
     (λ c κs. child-mask (c .before .loop .inv))
-    (λ c. search needs) (λ c. search needs)
-    (λ c κs. search needs)
-    (λ c. search needs) (λ c. search needs)
-    (λ c κs. whole-mask _ _ 64 refl (lit≤ tt) (mask-read c))
+    (λ c. search needs) (λ c. search needs) (λ c κs. search needs) (λ c. search needs) (λ c. search needs)
+    (λ c κs. whole-mask _ _ 64 refl (lit≤ tt) (mask-read (c .before)))
     (λ c. search needs)
-    (λ c κs. let n = placed (c .before .before) in (search needs, place-below (loop n .loop .inv) (next n), multiple (loop n .loop .inv)))
+    (λ c κs. let n = place (mask c) in (search needs, place-below (loop n .loop .inv) (next n), multiple (loop n .loop .inv)))
     (λ c. search needs)
-    (λ c κs.
-    let k = c .before .before .before in
-    (whole-mask _ _ 64 refl (lit≤ tt) (mask-read k), start (loop (placed k)) .pre .0, c .before .before .count-ones .ensures))
+    (λ c κs. let k = mask (c .before) in (whole-mask _ _ 64 refl (lit≤ tt) (mask-read k), start (place k) .pre .0, c .before .before .count-ones .ensures))
     (λ c. search needs) (λ c. search needs)
-    (λ c. let n = placed (c .before .before .before .before .before .before .before .before) in omega (arith, place-below (loop n .loop .inv) (next n)))
+    (λ c. let n = place (mask (passed c .before .before)) in omega (arith, place-below (loop n .loop .inv) (next n)))
     (λ c. search needs) (λ c. search needs) (λ c. search needs) (λ c. search needs)
-    passed
-    (λ c. c .before .loop .inv)
-    (λ c. c .before .before .before .before .loop .inv)
-    (λ c. loop (c .before .before .before) .loop .inv)
-    (λ c. loop (placed (c .before .before)) .loop .inv)
-    (λ c. loop (placed (c .before .before .before .before .before .before)) .loop .inv))
+    loop-again
+    (λ c. search needs) (λ c. search needs) (λ c. search needs) (λ c. search needs) (λ c. search needs))

@@ -19,49 +19,45 @@ Inv-loop s c t₀ t = InNode5 s t × RanTo s c t₀ t
 abbrev μ-loop : tie.MeasureT-loop
 μ-loop s c t₀ t = 32768 - t .cursor .node5 .next
 
+-- the turn of the loop, and the function's start
+abbrev turn : tie.After-node5 Inv-loop μ-loop → tie.At-loop Inv-loop μ-loop
+turn c = c .before .before
+
+abbrev start : tie.At-loop Inv-loop μ-loop → tie.Start Inv-loop μ-loop
+start c = c .before .before
+
 -- the next 4-node's place
-module _ (n : tie.After-known-told Inv-loop μ-loop) where
-  abbrev loop : tie.At-loop Inv-loop μ-loop
-  loop = n .before .before .before .before .before .before
+module _ (n : tie.After-p Inv-loop μ-loop) where
+  abbrev l : tie.At-loop Inv-loop μ-loop
+  l = turn (n .before .before .before)
 
-  abbrev start : tie.Start Inv-loop μ-loop
-  start = loop .before .before
+  next : let w = l .loop .t .cursor .node5 in some (n .p .given .0 .0 .0) ≡ nextOne (maskBit (start l .args .s .now) (w .pos)) 32768 (w .next)
+  next = told saysNext (n .p .given .1) (n .before .before .next-one .ensures)
 
-  next : let w = loop .loop .t .cursor .node5 in some (n .before .p .given .0 .0 .0) ≡ nextOne (maskBit (start .args .s .now) (w .pos)) 32768 (w .next)
-  next = told saysNext (n .before .p .given .1) (n .before .before .before .next-one .ensures)
+  below : n .p .given .0 .0 .0 < 32768
+  below = below5 _ (start l .args .c) _ (l .loop .inv .0) next
 
-  below : n .before .p .given .0 .0 .0 < 32768
-  below = below5 _ (start .args .c) _ (loop .loop .inv .0) next
+  later : l .loop .t .cursor .node5 .next ≤ n .p .given .0 .0 .0
+  later = later5 _ (start l .args .c) _ (l .loop .inv .0) next
 
-  later : loop .loop .t .cursor .node5 .next ≤ n .before .p .given .0 .0 .0
-  later = later5 _ (start .args .c) _ (loop .loop .inv .0) next
+-- back to where it was run, and to its place
+abbrev ran : tie.After-struct-known Inv-loop μ-loop → tie.After-run-node4 Inv-loop μ-loop
+ran c = c .before .before .before .before
 
-returns-2 : tie.Need-returns-2 Inv-loop μ-loop
-returns-2 c =
-    let r = c .before .before .before in
-    ran-on (loop (r .before) .loop .inv .1) (subst (nodeRan _ _ _ _) (c .before .r .given .1) (r .run-node4 .ensures))
-
-loop-again : tie.Need-loop-again Inv-loop μ-loop
-loop-again c =
-    let r = c .before .before .before .before .before in
-    let n = r .before in
-    goes-on _ _ _ (loop n .loop .inv .0) (next n) (loop n .loop .inv .1) (subst (nodeRan _ _ _ _) (c .before .before .before .at .given .1) (r .run-node4 .ensures)) (c .in-node5 .ensures)
+abbrev place : tie.After-run-node4 Inv-loop μ-loop → tie.After-p Inv-loop μ-loop
+place c = c .before .before
 
 pub run-nodes-spec : {M : Type 1} → statement M
 run-nodes-spec =
     tie.close
-    (tie.spec
-    Inv-loop
-    μ-loop
+    (tie.spec Inv-loop μ-loop
     (λ c. (c .before .pre .1, ran-none _ _ _))
-    (λ c κs. child-mask5 _ (c .before .before .before .before .args .c) _ (c .before .before .loop .inv .0))
-    (λ c. search needs) (λ c. search needs)
-    (λ c. c .before .before .before .before .before .loop .inv .1)
-    (λ c κs. (start c .pre .0, loop c .loop .inv .0, next c))
+    (λ c κs. child-mask5 _ (start (turn c) .args .c) _ (turn c .loop .inv .0))
+    (λ c. search needs) (λ c. search needs) (λ c. search needs)
+    (λ c κs. let n = c .before in (start (l n) .pre .0, l n .loop .inv .0, next n))
     (λ c. search needs)
-    returns-2
-    (λ c. search needs)
-    (λ c. omega (arith, below (c .before .before .before .before .before)))
-    (λ c κs. search needs)
-    (λ c. let n = c .before .before .before .before .before .before in rw (c .in-node5 .ensures) (omega (arith, below n, later n)))
-    loop-again)
+    (λ c. let r = c .before .before .before in ran-on (l (place r) .loop .inv .1) (subst (nodeRan _ _ _ _) (c .before .r .given .1) (r .run-node4 .ensures)))
+    (λ c. search needs) (λ c. omega (arith, below (place (ran c)))) (λ c κs. search needs)
+    (λ c. let n = place (ran (c .before)) in rw (c .in-node5 .ensures) (omega (arith, below n, later n)))
+    (λ c. let r = ran (c .before) in let n = place r in let i = l n .loop .inv in
+    goes-on _ _ _ (i .0) (next n) (i .1) (subst (nodeRan _ _ _ _) (c .before .before .before .at .given .1) (r .run-node4 .ensures)) (c .in-node5 .ensures)))

@@ -24,49 +24,50 @@ Inv-loop s c child at end₀ from₀ end from = (from ≤ 32768)
 abbrev μ-loop : tie.MeasureT-loop
 μ-loop s c child at end₀ from₀ end from = 32768 - from
 
-abbrev bits : tie.Start Inv-loop μ-loop → ℕ → Bool
-bits p = maskBit (p .args .s .now) (p .args .child)
+abbrev start : tie.At-loop Inv-loop μ-loop → tie.Start Inv-loop μ-loop
+start c = c .before .before
 
--- The next child's place.
-module _ (n : tie.After-known-told Inv-loop μ-loop) where
-  abbrev loop : tie.At-loop Inv-loop μ-loop
-  loop = n .before .before .before .before
+abbrev bits : tie.At-loop Inv-loop μ-loop → ℕ → Bool
+bits c = maskBit (start c .args .s .now) (start c .args .child)
 
-  abbrev child : ℕ → Bool
-  child = bits (n .before .before .before .before .before .before)
+-- The next child's place, and its turn of the loop.
+module _ (n : tie.After-p Inv-loop μ-loop) where
+  abbrev l : tie.At-loop Inv-loop μ-loop
+  l = n .before .before .before
 
-  next : some (n .before .p .given .0 .0 .0) ≡ nextOne child 32768 (loop .loop .from)
-  next = told saysNext (n .before .p .given .1) (n .before .before .before .next-one .ensures)
+  next : some (n .p .given .0 .0 .0) ≡ nextOne (bits l) 32768 (l .loop .from)
+  next = told saysNext (n .p .given .1) (n .before .before .next-one .ensures)
 
-  below : n .before .p .given .0 .0 .0 < 32768
-  below = next-lt child 32768 _ _ (sym next)
+  below : n .p .given .0 .0 .0 < 32768
+  below = next-lt (bits l) 32768 _ _ (sym next)
 
-  later : loop .loop .from ≤ n .before .p .given .0 .0 .0
-  later = next-from child 32768 _ _ (sym next)
+  later : l .loop .from ≤ n .p .given .0 .0 .0
+  later = next-from (bits l) 32768 _ _ (sym next)
+
+-- Back to it from behind the call that passes the child, and to that call.
+abbrev place : tie.After-pass-node4 Inv-loop μ-loop → tie.After-p Inv-loop μ-loop
+place c = c .before .before
+
+abbrev passed : tie.After-struct-known Inv-loop μ-loop → tie.After-pass-node4 Inv-loop μ-loop
+passed c = c .before .before .before .before
 
 returns : tie.Need-returns Inv-loop μ-loop
 returns c o =
-    let l = c .before .before .before .loop in
-    ones-none _ (bits (c .before .before .before .before .before)) 32768 (l .from) _ (told saysNext (c .enum-told .given .1) (c .before .before .next-one .ensures)) ∙ l .inv .1 o
-
-returns-2 : tie.Need-returns-2 Inv-loop μ-loop
-returns-2 c o =
-    let n = c .before .before .before .before in
-    ones-fails _ (child n) 32768 _ _ (next n) (told saysEnd (c .before .k .given .1) (c .before .before .before .pass-node4 .ensures _))
-    ∙ loop n .loop .inv .1 o
-
-loop-again : tie.Need-loop-again Inv-loop μ-loop
-loop-again c =
-    let n = c .before .before .before .before .before in (
-      omega (arith, below n),
-      λ o. ones-more _ (child n) 32768 _ _ (next n) (told saysEnd (c .before .before .q .given .1) (c .before .before .before .before .pass-node4 .ensures _))
-          ∙ loop n .loop .inv .1 o,
-    )
+    let n = c .before .before in
+    let l = n .before in
+    ones-none _ (bits l) 32768 (l .loop .from) _ (told saysNext (c .enum-told .given .1) (n .next-one .ensures)) ∙ l .loop .inv .1 o
 
 pub pass-nodes-spec : {M : Type 1} → statement M
 pass-nodes-spec =
     tie.close
-    (tie.spec Inv-loop μ-loop (λ c. (search needs, λ o. refl)) (λ c κs. (c .before .before .pre .1, c .loop .inv .0))
-    (λ c. search needs) (λ c. search needs) returns (λ c κs. c .before .before .before .before .before .before .pre .0)
-    (λ c. search needs) returns-2 (λ c. search needs) (λ c. omega (arith, below (c .before .before .before .before .before)))
-    (λ c. omega (arith, below (c .before .before .before .before .before), later (c .before .before .before .before .before))) loop-again)
+    (tie.spec Inv-loop μ-loop (λ c. (search needs, λ o. refl)) (λ c κs. (start c .pre .1, c .loop .inv .0))
+    (λ c. search needs) (λ c. search needs) returns (λ c κs. start (l (c .before)) .pre .0)
+    (λ c. search needs)
+    (λ c o. let p = c .before .before .before in let n = place p in
+    ones-fails _ (bits (l n)) 32768 _ _ (next n) (told saysEnd (c .before .k .given .1) (p .pass-node4 .ensures _)) ∙ l n .loop .inv .1 o)
+    (λ c. search needs) (λ c. omega (arith, below (place (passed c))))
+    (λ c. let n = place (passed c) in omega (arith, below n, later n))
+    (λ c. let n = place (passed c) in (
+      omega (arith, below n),
+      λ o. ones-more _ (bits (l n)) 32768 _ _ (next n) (told saysEnd (c .before .before .q .given .1) (passed c .pass-node4 .ensures _)) ∙ l n .loop .inv .1 o,
+    )))
