@@ -13,7 +13,7 @@ use Rattle.half.specs.Inner.{isWidth}
 use Rattle.masks.specs.Masks.{maskBit, onesFrom, countBelow}
 use Rattle.masks.proofs.Laws.{count-suc, count-suc-one, count-strict}
 use Rattle.masks.proofs.Agree.{bit-same}
-use Rattle.values.specs.declared.Coding.{Coding}
+use Rattle.forms.specs.declared.Coding.{Coding}
 use Rattle.values.proofs.Laws.{in-run}
 use Rattle.values.proofs.Agree.{stored-value-same}
 use Rattle.tree.specs.Active.{Piece, edgeOf, sideOf}

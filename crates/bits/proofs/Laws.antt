@@ -15,7 +15,7 @@ use Rattle.fields.specs.Parse.{when}
 use Rattle.masks.specs.Masks.{digit, maskBit, onesFrom, countBelow}
 use Rattle.masks.proofs.Laws.{ones-none, ones-nil, ones-ext, length-suc, length-shift, length-zeros}
 use Rattle.masks.proofs.Digits.{digit-shift, digit-past, trailing-zero, trailing-one, trailing-lt}
-use Rattle.values.specs.declared.Coding.{Coding}
+use Rattle.forms.specs.declared.Coding.{Coding}
 use Rattle.half.specs.Half.{storedValue}
 use Rattle.coordinates.specs.Coordinates.{index, globalOf}
 use Rattle.coordinates.specs.declared.GlobalCoord.{GlobalCoord}

@@ -14,7 +14,7 @@ use lib.Pow.{shl-shr, shr-shr}
 use Rattle.fields.specs.Parse.{when}
 use Rattle.masks.specs.Masks.{digit, countBelow}
 use Rattle.masks.proofs.Digits.{digit-shift, digit-past, trailing-zero, trailing-one, trailing-lt}
-use Rattle.values.specs.declared.Coding.{Coding}
+use Rattle.forms.specs.declared.Coding.{Coding}
 use Rattle.half.specs.Half.{storedValue}
 use Rattle.coordinates.specs.Coordinates.{index, globalOf, aligned}
 use Rattle.coordinates.specs.declared.GlobalCoord.{GlobalCoord}

@@ -9,7 +9,7 @@ use lib.Dec.{eqb, ltb}
 use lib.ListN.{length}
 use Rattle.fields.specs.Parse.{when}
 use Rattle.masks.specs.Masks.{digit, maskBit, countBelow}
-use Rattle.values.specs.declared.Coding.{Coding}
+use Rattle.forms.specs.declared.Coding.{Coding}
 use Rattle.half.specs.Half.{storedValue}
 use Rattle.coordinates.specs.Coordinates.{index, globalOf, places}
 use Rattle.tree.specs.Active.{Record, sideOf, edgeOf}

@@ -7,8 +7,8 @@ ghost use Rattle.slots.specs.Slots.{slotsOf};
 ghost use Rattle.slots.specs.Inner.{Room, Readable, standing};
 ghost use Rattle.bits.specs.Inner.{Fills, InWord, LeafWord, SumsFit, handWord, skipped, passed, shifted, pastActive, onesPast, numberIn};
 use coordinates::Index;
+use forms::Coding;
 use slots::Inside;
-use values::Coding;
 
 // The places of one mask word that are left, `left` of them: their bits of the value mask and of the child mask, the next place's lowest.
 pub struct Bits {

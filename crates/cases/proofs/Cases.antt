@@ -9,8 +9,9 @@ use Rattle.fields.specs.Fields.{stringField, sameBytes}
 use Rattle.coordinates.specs.Coordinates.{localOf, globalOf, remainder, aligned}
 use Rattle.masks.specs.Masks.{digit, maskBit, onesFrom}
 use Rattle.half.specs.Half.{storedValue}
-use Rattle.values.specs.Values.{formField, formSelected, inactiveField, selectionField, inactivesField, storedBy, headField, isStored}
-use Rattle.values.specs.Values.{runField, valuesField, isSelected, inactiveValue, placeValue, valuesFrom}
+use Rattle.forms.specs.Forms.{formField, formSelected, inactiveField, selectionField, inactivesField, storedBy, headField}
+use Rattle.runs.specs.Runs.{isStored, runField, valuesField}
+use Rattle.values.specs.Values.{isSelected, inactiveValue, placeValue, valuesFrom}
 use Rattle.nodes.specs.Nodes.{nodeField, oldField, blockField}
 use Rattle.roots.specs.Roots.{buffersField, rootCountField, tilesField, treeHeadField, isAmong, originField}
 use Rattle.tree.specs.Inner.{kept}

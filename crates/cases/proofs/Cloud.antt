@@ -15,13 +15,14 @@ use Rattle.coordinates.specs.declared.GlobalCoord.{GlobalCoord}
 use Rattle.masks.specs.Masks.{maskBit, consIf, onesFrom, ones, countBelow}
 use Rattle.masks.proofs.Laws.{ones-none, count-suc-one, count-suc-zero}
 use Rattle.half.specs.Half.{storedValue}
-use Rattle.values.specs.Values.{isPacked, formField, formSelected, inactiveField, selectionField, inactivesField, storedBy, headField, isStored}
-use Rattle.values.specs.Values.{runField, valuesField, isSelected, inactiveValue, placeValue, valuesFrom}
-use Rattle.values.specs.declared.Coding.{Coding}
-use Rattle.values.specs.declared.Stored.{Stored}
-use Rattle.values.specs.declared.Stored.the-variants.{Every, Active, Childless}
-use Rattle.values.specs.declared.Selection.the-variants.{Nothing}
-use Rattle.values.specs.declared.Values.{Values}
+use Rattle.forms.specs.Forms.{isPacked, formField, formSelected, inactiveField, selectionField, inactivesField, storedBy, headField}
+use Rattle.runs.specs.Runs.{isStored, runField, valuesField}
+use Rattle.values.specs.Values.{isSelected, inactiveValue, placeValue, valuesFrom}
+use Rattle.forms.specs.declared.Coding.{Coding}
+use Rattle.forms.specs.declared.Stored.{Stored}
+use Rattle.forms.specs.declared.Stored.the-variants.{Every, Active, Childless}
+use Rattle.forms.specs.declared.Selection.the-variants.{Nothing}
+use Rattle.runs.specs.declared.Values.{Values}
 use Rattle.nodes.specs.Nodes.{nodeField, oldField, blockField}
 use Rattle.nodes.specs.declared.NodeHeader.{NodeHeader}
 use Rattle.nodes.specs.declared.Leaf.{Leaf}

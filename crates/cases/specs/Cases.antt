@@ -17,7 +17,7 @@ use Rattle.transform.specs.declared.Map.{Map}
 use Rattle.transform.specs.declared.Map.the-variants as M
 use Rattle.header.specs.Header.{magic}
 use Rattle.values.specs.Values.{placeValue, valuesFrom}
-use Rattle.values.specs.declared.Coding.{Coding}
+use Rattle.forms.specs.declared.Coding.{Coding}
 use Rattle.nodes.specs.Nodes.{nodeField, blockField}
 use Rattle.nodes.specs.declared.NodeHeader.{NodeHeader}
 use Rattle.nodes.specs.declared.Block.{Block}

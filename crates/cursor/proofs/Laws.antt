@@ -19,7 +19,7 @@ use Rattle.coordinates.proofs.Axis.{and-both}
 use Rattle.masks.specs.Masks.{maskBit, onesFrom}
 use Rattle.masks.specs.Inner.{nextOne}
 use Rattle.masks.proofs.Laws.{next-none, next-some, next-lt}
-use Rattle.values.specs.declared.Coding.{Coding}
+use Rattle.forms.specs.declared.Coding.{Coding}
 use Rattle.nodes.specs.Nodes.{nodeField, blockField}
 use Rattle.nodes.specs.declared.NodeHeader.{NodeHeader}
 use Rattle.nodes.specs.declared.Block.{Block}

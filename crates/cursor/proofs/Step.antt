@@ -14,9 +14,9 @@ use Rattle.coordinates.specs.declared.GlobalCoord.{GlobalCoord}
 use Rattle.coordinates.proofs.Laws.{child-aligned}
 use Rattle.half.specs.Inner.{isWidth}
 use Rattle.masks.specs.Masks.{maskBit}
-use Rattle.values.specs.Values.{isStored}
-use Rattle.values.specs.declared.Coding.{Coding}
-use Rattle.values.proofs.Laws.{node-active, leaf-active}
+use Rattle.runs.specs.Runs.{isStored}
+use Rattle.forms.specs.declared.Coding.{Coding}
+use Rattle.runs.proofs.Laws.{node-active, leaf-active}
 use Rattle.nodes.specs.Nodes.{blockField}
 use Rattle.nodes.specs.declared.Leaf.{Leaf}
 use Rattle.nodes.proofs.Laws.{node-back, block-back}

@@ -15,7 +15,7 @@ use Rattle.coordinates.specs.declared.GlobalCoord.{GlobalCoord}
 use Rattle.coordinates.proofs.Axis.{and-both}
 use Rattle.coordinates.proofs.Laws.{child-aligned}
 use Rattle.masks.specs.Masks.{maskBit, ones, onesFrom}
-use Rattle.values.specs.declared.Coding.{Coding}
+use Rattle.forms.specs.declared.Coding.{Coding}
 use Rattle.nodes.specs.Nodes.{nodeField, blockField}
 use Rattle.nodes.specs.declared.NodeHeader.{NodeHeader}
 use Rattle.nodes.proofs.Laws.{node-back}

@@ -15,9 +15,9 @@ use Rattle.coordinates.specs.Coordinates.{index, places, globalOf, aligned, ori
 use Rattle.coordinates.specs.declared.GlobalCoord.{GlobalCoord}
 use Rattle.masks.specs.Masks.{maskBit, onesFrom}
 use Rattle.masks.specs.Inner.{nextOne}
-use Rattle.values.specs.Values.{isStored}
-use Rattle.values.specs.Inner.{Held}
-use Rattle.values.specs.declared.Coding.{Coding}
+use Rattle.runs.specs.Runs.{isStored}
+use Rattle.runs.specs.Inner.{Held}
+use Rattle.forms.specs.declared.Coding.{Coding}
 use Rattle.nodes.specs.Nodes.{nodeField, blockField}
 use Rattle.nodes.specs.declared.NodeHeader.{NodeHeader}
 use Rattle.tree.specs.Topology.{leafField}

@@ -13,13 +13,13 @@ use coordinates::GlobalCoord;
 use coordinates::Index;
 use fields::IVec3Field;
 use fields::SpanField;
+use forms::Coding;
 use masks::NextOne;
 use nodes::Block;
 use nodes::BlockField;
 use nodes::Leaf;
 use nodes::NodeField;
-use values::Coding;
-use values::Values;
+use runs::Values;
 
 // A leaf, a 4-node or a 5-node: level 0, 1 or 2, its origin, where its masks stand, and its values. A leaf has no child mask; the position of
 // its value mask stands there.

@@ -16,8 +16,8 @@ use Rattle.archive.specs.declared.Asked.{Asked}
 use Rattle.fields.proofs.Answers.{with-gives, with-refuses, answer-fails}
 use Rattle.header.specs.declared.ArchiveHeader.{ArchiveHeader}
 use Rattle.descriptor.specs.declared.GridDescriptor.{GridDescriptor}
-use Rattle.values.specs.Values.{isPacked}
-use Rattle.values.specs.declared.Coding.{Coding}
+use Rattle.forms.specs.Forms.{isPacked}
+use Rattle.forms.specs.declared.Coding.{Coding}
 use Rattle.transform.specs.Transform.{transform}
 use Rattle.transform.specs.declared.Map.{Map}
 use Rattle.nodes.specs.Inner.{endOf}

@@ -18,8 +18,8 @@ use Rattle.archive.specs.declared.Asked.the-variants as A
 use Rattle.transform.specs.Transform.{transform}
 use Rattle.transform.specs.declared.Map.{Map}
 use Rattle.coordinates.specs.declared.GlobalCoord.{GlobalCoord}
-use Rattle.values.specs.Values.{isPacked}
-use Rattle.values.specs.declared.Coding.{Coding}
+use Rattle.forms.specs.Forms.{isPacked}
+use Rattle.forms.specs.declared.Coding.{Coding}
 use Rattle.roots.specs.Roots.{treeHeadField}
 use Rattle.roots.specs.declared.TreeHead.{TreeHead}
 use Rattle.tree.specs.Topology.{Node5, rootsField}

@@ -13,6 +13,7 @@ use archive::FoundGrid;
 use descriptor::GridDescriptor;
 use descriptor::HalfEntry;
 use descriptor::TreeKind;
+use forms::Coding;
 use header::ArchiveHeader;
 use nodes::EndField;
 use place::Place;
@@ -22,7 +23,6 @@ use roots::TreeHeadField;
 use skip::Skipped;
 use transform::Map;
 use transform::MapField;
-use values::Coding;
 
 // An opened grid: its transform and where that ends, its background's pattern, the length of its active list, how many leaves it has, and the place of a
 // walk before its first record. The patterns of the transform's doubles are the last 120 bytes before its end, or the last 144.
@@ -188,7 +188,7 @@ fn read_grid(s: &[u8], h: ArchiveHeader, d: GridDescriptor) -> ContentAnswer
     if parent.len != 0 {
         return ContentAnswer::Refused(13);
     }
-    if values::is_packed(d.compression) {
+    if forms::is_packed(d.compression) {
         return ContentAnswer::Refused(6);
     }
     read_content(s, h, d)

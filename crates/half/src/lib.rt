@@ -2,11 +2,8 @@
 ghost use mathlib.Core.Path.{_≡_};
 ghost use Prim.Native.Nat.{_+_, _≤_, _<_, _^_};
 ghost use lib.ListN.{length};
-ghost use Rattle.fields.specs.Parse.{field};
-ghost use Rattle.fields.specs.Says.{saysU32};
 ghost use Rattle.half.specs.Half.{exponent, storedValue, widened};
 ghost use Rattle.half.specs.Inner.{isTable, isTimes, isWidth};
-use fields::U32Field;
 
 // Entry k is the 32-bit pattern of k times 2 to the minus 24, the value of the subnormal half (zero among them) with the fraction k.
 const SUBNORMALS: [u32; 1024] = [
@@ -1128,15 +1125,4 @@ pub fn value_at(s: &[u8], at: usize, width: usize) -> u32
         return fields::u32_at(s, at);
     }
     widen(fields::u16_at(s, at) as u16)
-}
-
-// The same as a field.
-pub fn read_value(s: &[u8], at: usize, width: usize) -> U32Field
-    requires { ⌜ isWidth width ⌝ }
-    ensures { λ r. ⌜ saysU32 r ≡ field (now (s .entry)) width (storedValue (now (s .entry)) width at) at ⌝ }
-{
-    if fields::remaining(s, at) < width {
-        return U32Field::Past;
-    }
-    U32Field::Got(value_at(s, at, width), at + width)
 }

@@ -14,8 +14,8 @@ use Rattle.fields.specs.Answer.{gives, refuses}
 use Rattle.archive.specs.declared.Asked.{Asked}
 use Rattle.fields.proofs.Answers.{with-back, with-gives, gives-same}
 use Rattle.values.specs.Values.{leafValues, valuesFrom}
-use Rattle.values.specs.declared.Coding.{Coding}
-use Rattle.values.specs.declared.Values.{Values}
+use Rattle.forms.specs.declared.Coding.{Coding}
+use Rattle.runs.specs.declared.Values.{Values}
 use Rattle.nodes.specs.declared.Block.{Block}
 use Rattle.tree.specs.Active.{allBlocks}
 use Rattle.coordinates.proofs.Axis.{and-both}

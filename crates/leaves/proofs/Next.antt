@@ -11,8 +11,8 @@ use borrow.Author.Tests.{eqb-true, leb-true}
 use Rattle.fields.specs.Parse.{when}
 use Rattle.coordinates.proofs.Axis.{and-both}
 use Rattle.half.specs.Inner.{isWidth}
-use Rattle.values.specs.Inner.{Held}
-use Rattle.values.specs.declared.Coding.{Coding}
+use Rattle.runs.specs.Inner.{Held}
+use Rattle.forms.specs.declared.Coding.{Coding}
 use Rattle.tree.specs.Active.{Piece}
 use Rattle.tree.specs.Inner.{recordCount, leafCount}
 use Rattle.tree.proofs.Counting.{total, total-append}

@@ -15,7 +15,7 @@ use Rattle.archive.specs.declared.Asked.{Asked}
 use Rattle.fields.proofs.Answers.{with-gives, with-back, gives-same}
 use Rattle.coordinates.proofs.Axis.{and-both}
 use Rattle.values.specs.Values.{leafValues}
-use Rattle.values.specs.declared.Coding.{Coding}
+use Rattle.forms.specs.declared.Coding.{Coding}
 use Rattle.nodes.specs.declared.Block.{Block}
 use Rattle.tree.specs.Blocks.{Filled4, Filled5}
 use Rattle.tree.specs.Active.{Piece, leafPiece, piece4, piece5, pieces4, pieces5, pieces, allBlocks}

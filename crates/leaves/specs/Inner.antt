@@ -7,7 +7,7 @@ use lib.ListN.{length, take, drop}
 use Rattle.fields.specs.Parse.{when}
 use Rattle.half.specs.Inner.{isWidth}
 use Rattle.values.specs.Values.{leafValues}
-use Rattle.values.specs.declared.Coding.{Coding}
+use Rattle.forms.specs.declared.Coding.{Coding}
 use Rattle.tree.specs.Active.{Piece}
 use Rattle.cursor.specs.Inner.{Stop, betweenRoots, toCome}
 use Rattle.cursor.specs.declared.Cursor.{Cursor}

@@ -6,9 +6,9 @@ use Prim.Native.Nat.{ℕ}
 use Rattle.fields.proofs.Agree.{Reads, reads, Tells, got-tells, then-tells, then-plain, check-tells, part-tells, keep, SameFor}
 use Rattle.coordinates.specs.declared.GlobalCoord.{GlobalCoord}
 use Rattle.masks.proofs.Agree.{overlap-same, agree-same}
-use Rattle.values.specs.declared.Coding.{Coding}
-use Rattle.values.specs.declared.Stored.the-variants.{Every, Childless}
-use Rattle.values.proofs.Agree.{SameValues, values-tells}
+use Rattle.forms.specs.declared.Coding.{Coding}
+use Rattle.forms.specs.declared.Stored.the-variants.{Every, Childless}
+use Rattle.runs.proofs.Agree.{SameValues, values-tells}
 use Rattle.nodes.specs.Nodes.{nodeField, leafBuffersField, oldField, blockField}
 use Rattle.nodes.specs.declared.NodeHeader.{NodeHeader}
 use Rattle.nodes.specs.declared.Leaf.{Leaf}

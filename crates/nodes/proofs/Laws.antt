@@ -18,13 +18,13 @@ use Rattle.half.specs.Inner.{isWidth}
 use Rattle.masks.specs.Inner.{IsMask}
 use Rattle.masks.specs.Masks.{maskBit, countBelow, overlap, agree}
 use Rattle.masks.proofs.Laws.{agree-ones}
-use Rattle.values.specs.Values.{valuesField}
-use Rattle.values.specs.declared.Coding.{Coding}
-use Rattle.values.specs.declared.Stored.the-variants.{Every as EveryPlace, Childless}
-use Rattle.values.specs.Inner.{Held}
-use Rattle.values.proofs.Laws.{values-held}
-use Rattle.values.proofs.Agree.{values-ends}
-pub use Rattle.values.proofs.Laws.{whole-mask}
+use Rattle.runs.specs.Runs.{valuesField}
+use Rattle.forms.specs.declared.Coding.{Coding}
+use Rattle.forms.specs.declared.Stored.the-variants.{Every as EveryPlace, Childless}
+use Rattle.runs.specs.Inner.{Held}
+use Rattle.runs.proofs.Laws.{values-held}
+use Rattle.runs.proofs.Agree.{values-ends}
+pub use Rattle.forms.proofs.Laws.{whole-mask}
 use Rattle.nodes.specs.Nodes.{nodeField, blockField}
 use Rattle.nodes.specs.Inner.{blockHead, endOf}
 use Rattle.nodes.specs.declared.NodeHeader.{NodeHeader}

@@ -8,9 +8,9 @@ use Rattle.fields.specs.Fields.{u8Field, iVec3Field, bytesField}
 use Rattle.coordinates.specs.Coordinates.{sameCoord, originOf}
 use Rattle.coordinates.specs.declared.GlobalCoord.{GlobalCoord}
 use Rattle.masks.specs.Masks.{maskBit, overlap, agree}
-use Rattle.values.specs.Values.{valuesField}
-use Rattle.values.specs.declared.Coding.{Coding}
-use Rattle.values.specs.declared.Stored.the-variants.{Every, Childless}
+use Rattle.runs.specs.Runs.{valuesField}
+use Rattle.forms.specs.declared.Coding.{Coding}
+use Rattle.forms.specs.declared.Stored.the-variants.{Every, Childless}
 use Rattle.nodes.specs.declared.NodeHeader.{NodeHeader}
 use Rattle.nodes.specs.declared.Leaf.{Leaf}
 use Rattle.nodes.specs.declared.Block.{Block}

@@ -10,10 +10,10 @@ use coordinates::GlobalCoord;
 use fields::IVec3Field;
 use fields::SpanField;
 use fields::U8Field;
-use values::Coding;
-use values::Stored;
-use values::Values;
-use values::ValuesField;
+use forms::Coding;
+use forms::Stored;
+use runs::Values;
+use runs::ValuesField;
 
 // Where a node's masks stand, and its values.
 pub struct NodeHeader {
@@ -67,7 +67,7 @@ pub fn read_node_header(s: &[u8], c: Coding, n: usize, at: usize) -> NodeField
     if masks::masks_overlap(s, child, value, n) {
         return NodeField::Refused(18);
     }
-    match values::read_values(s, c, Stored::Childless, n, child, value, q) {
+    match runs::read_values(s, c, Stored::Childless, n, child, value, q) {
         ValuesField::Got(values, r) => NodeField::Got(
             NodeHeader {
                 child,
@@ -139,7 +139,7 @@ pub fn read_block(s: &[u8], c: Coding, leaf: Leaf, at: usize) -> BlockField
     match read_block_head(s, c.version, leaf, at) {
         EndField::Refused(k) => BlockField::Refused(k),
         EndField::Got(p) => {
-            match values::read_values(s, c, Stored::Every, 64, at, at, p) {
+            match runs::read_values(s, c, Stored::Every, 64, at, at, p) {
                 ValuesField::Refused(k) => BlockField::Refused(k),
                 ValuesField::Got(values, q) => {
                     let origin = leaf.origin;
@@ -164,7 +164,7 @@ pub fn pass_block(s: &[u8], c: Coding, leaf: Leaf, ones: usize, at: usize) -> En
     match read_block_head(s, c.version, leaf, at) {
         EndField::Refused(k) => EndField::Refused(k),
         EndField::Got(p) => {
-            match values::read_counted(s, c, Stored::Every, 64, at, at, ones, p) {
+            match runs::read_counted(s, c, Stored::Every, 64, at, at, ones, p) {
                 ValuesField::Refused(k) => EndField::Refused(k),
                 ValuesField::Got(_, q) => EndField::Got(q),
             }

@@ -9,9 +9,9 @@ use native.Mathlib.Omega.{arith}
 use Rattle.masks.specs.Masks.{maskBit, countBelow}
 use Rattle.masks.specs.Inner.{IsMask, nextOne}
 use Rattle.masks.proofs.Laws.{next-lt, next-from, next-one, next-count, next-none-count, count-suc-one, count-le}
-use Rattle.values.specs.Values.{isStored, numberOf}
-use Rattle.values.specs.declared.Stored.{Stored}
-use Rattle.values.specs.declared.Stored.the-variants.{Childless}
+use Rattle.runs.specs.Runs.{isStored, numberOf}
+use Rattle.forms.specs.declared.Stored.{Stored}
+use Rattle.forms.specs.declared.Stored.the-variants.{Childless}
 use Rattle.slots.specs.Inner.{maskBytes, standing}
 use Rattle.slots.specs.declared.Inside.{Inside}
 use Rattle.nth.specs.Inner.{storedOf, IsOne, HasOne, BehindOne}

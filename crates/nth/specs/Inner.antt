@@ -5,9 +5,9 @@ use mathlib.Core.List.{List}
 use mathlib.Core.Bool.{Bool, true}
 use Rattle.masks.specs.Masks.{maskBit, countBelow}
 use Rattle.masks.specs.Inner.{IsMask}
-use Rattle.values.specs.Values.{numberOf}
-use Rattle.values.specs.declared.Stored.{Stored}
-use Rattle.values.specs.declared.Stored.the-variants.{Every, Active, Childless}
+use Rattle.runs.specs.Runs.{numberOf}
+use Rattle.forms.specs.declared.Stored.{Stored}
+use Rattle.forms.specs.declared.Stored.the-variants.{Every, Active, Childless}
 use Rattle.slots.specs.Inner.{maskBytes, standing}
 use Rattle.slots.specs.declared.Inside.{Inside}
 

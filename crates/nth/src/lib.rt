@@ -6,9 +6,9 @@ ghost use Rattle.masks.specs.Masks.{maskBit, countBelow};
 ghost use Rattle.masks.specs.Inner.{IsMask};
 ghost use Rattle.nth.specs.Inner.{storedOf, IsOne, HasOne, BehindOne};
 use coordinates::Index;
+use forms::Stored;
 use masks::NextOne;
 use slots::Inside;
-use values::Stored;
 
 // The place of the one with the number k, from 0, among those from a place on.
 fn one_from(s: &[u8], at: usize, n: usize, from: u32, k: u32) -> Index
@@ -67,7 +67,7 @@ pub fn stand_behind(s: &[u8], w: Inside, k: u32) -> Inside
     let n = slots::mask_bytes(w.level);
     let p = nth_one(s, w.value_mask, n, k);
     let stored = stored_of(w.stored);
-    let number = values::number_of(s, stored, n, w.child_mask, w.value_mask, p);
+    let number = runs::number_of(s, stored, n, w.child_mask, w.value_mask, p);
     let mut r = w;
     r.from = p.0 + 1;
     r.number = number + 1;

@@ -20,10 +20,10 @@ use fields::SpanField;
 use fields::U8Field;
 use fields::U32Field;
 use fields::U64Field;
+use forms::Coding;
+use forms::Stored;
 use masks::NextOne;
-use values::Coding;
-use values::Stored;
-use values::ValuesField;
+use runs::ValuesField;
 
 fn u8_field(a: U8Field) {
     match a {
@@ -121,7 +121,7 @@ fn value_of(s: &[u8], version: u32, flags: u32, width: usize, n: usize, p: usize
     if s.len() < 2 * bytes {
         return 0;
     }
-    match values::read_values(s, coding, Stored::Childless, bytes, 0, bytes, 2 * bytes) {
+    match runs::read_values(s, coding, Stored::Childless, bytes, 0, bytes, 2 * bytes) {
         ValuesField::Refused(k) => 4294967296 + k as u64,
         ValuesField::Got(v, e) => {
             if 8 * bytes <= p {

@@ -11,7 +11,7 @@ use lib.Seq.{length-take-le, take-all}
 use borrow.Author.Tests.{lt-ltb, le-leb, lt-leb, eqb-true, eqb-false, ltb-true, ltb-false}
 use Rattle.fields.specs.Parse.{when}
 use Rattle.half.specs.Inner.{isWidth}
-use Rattle.values.specs.declared.Coding.{Coding}
+use Rattle.forms.specs.declared.Coding.{Coding}
 use Rattle.tree.specs.Active.{recordsOf}
 use Rattle.tree.specs.Inner.{recordCount, leafCount}
 use Rattle.tree.proofs.Counting.{total}

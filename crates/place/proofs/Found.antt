@@ -15,7 +15,7 @@ use Rattle.coordinates.specs.Coordinates.{places}
 use Rattle.masks.specs.Masks.{maskBit, onesFrom, countBelow}
 use Rattle.masks.specs.Inner.{IsMask}
 use Rattle.masks.proofs.Laws.{count-le, count-mono}
-use Rattle.values.specs.declared.Coding.{Coding}
+use Rattle.forms.specs.declared.Coding.{Coding}
 use Rattle.tree.specs.Active.{Piece, edgeOf}
 use Rattle.tree.specs.Inner.{recordCount, leafCount}
 use Rattle.tree.proofs.Counting.{total, total-append}

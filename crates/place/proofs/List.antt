@@ -10,7 +10,7 @@ use lib.Seq.{length-take-le, take-all, take-nil, take-append-le, take-append-add
 use borrow.Author.Tests.{le-ltb, ltb-true, ltb-false}
 use Rattle.fields.specs.Parse.{when}
 use Rattle.half.specs.Inner.{isWidth}
-use Rattle.values.specs.declared.Coding.{Coding}
+use Rattle.forms.specs.declared.Coding.{Coding}
 use Rattle.tree.specs.Topology.{Node5}
 use Rattle.tree.specs.Blocks.{Filled5}
 use Rattle.tree.specs.Active.{Record, recordsOf, activeList}

@@ -14,7 +14,7 @@ use Rattle.coordinates.specs.Coordinates.{places}
 use Rattle.masks.specs.Masks.{maskBit, ones, countBelow}
 use Rattle.masks.specs.Inner.{IsMask, nextOne}
 use Rattle.masks.proofs.Laws.{ones-none, count-strict, next-lt, next-one, next-none-count}
-use Rattle.values.specs.declared.Coding.{Coding}
+use Rattle.forms.specs.declared.Coding.{Coding}
 use Rattle.tree.specs.Active.{Record, Piece, edgeOf, recordAt, recordsOf}
 use Rattle.tree.specs.Inner.{recordCount, leafCount}
 use Rattle.tree.proofs.Counting.{total}

@@ -13,10 +13,10 @@ use Rattle.fields.specs.Parse.{when}
 use Rattle.coordinates.specs.Coordinates.{places}
 use Rattle.masks.specs.Masks.{maskBit, onesFrom, countBelow}
 use Rattle.masks.proofs.Laws.{ones-none, ones-one, ones-zero, count-suc, count-suc-one}
-use Rattle.values.specs.Values.{isStored}
-use Rattle.values.specs.declared.Coding.{Coding}
-use Rattle.values.specs.declared.Stored.{Stored}
-use Rattle.values.specs.declared.Stored.the-variants.{Every, Active, Childless}
+use Rattle.runs.specs.Runs.{isStored}
+use Rattle.forms.specs.declared.Coding.{Coding}
+use Rattle.forms.specs.declared.Stored.{Stored}
+use Rattle.forms.specs.declared.Stored.the-variants.{Every, Active, Childless}
 use Rattle.values.proofs.Laws.{held-place, stored-place}
 use Rattle.tree.specs.Active.{Record, Piece, edgeOf, recordAt, recordsOf}
 use Rattle.slots.specs.Inner.{roomOf}

@@ -13,9 +13,9 @@ use Rattle.fields.specs.Parse.{when}
 use Rattle.coordinates.specs.Coordinates.{places}
 use Rattle.masks.specs.Masks.{onesFrom, countBelow}
 use Rattle.masks.proofs.Laws.{ones-none, length-suc, count-add, count-suc, count-suc-one, count-le, count-strict}
-use Rattle.values.specs.declared.Coding.{Coding}
-use Rattle.values.specs.declared.Stored.{Stored}
-use Rattle.values.specs.declared.Stored.the-variants.{Every, Active, Childless}
+use Rattle.forms.specs.declared.Coding.{Coding}
+use Rattle.forms.specs.declared.Stored.{Stored}
+use Rattle.forms.specs.declared.Stored.the-variants.{Every, Active, Childless}
 use Rattle.tree.specs.Active.{Piece, edgeOf, recordAt}
 use Rattle.slots.specs.Inner.{standing}
 use Rattle.bits.specs.Inner.{isKept, handOut}

@@ -6,7 +6,7 @@ use native.Mathlib.Nat.{sub-zero}
 use lib.ListN.{length, take, drop}
 use lib.Seq.{length-take-le, take-add}
 use Rattle.half.specs.Inner.{isWidth}
-use Rattle.values.specs.declared.Coding.{Coding}
+use Rattle.forms.specs.declared.Coding.{Coding}
 use Rattle.tree.specs.Topology.{Node5}
 use Rattle.tree.specs.Blocks.{Filled5}
 use Rattle.tree.specs.Active.{Record, activeList}

@@ -13,7 +13,7 @@ use Rattle.coordinates.specs.Coordinates.{places}
 use Rattle.half.specs.Inner.{isWidth}
 use Rattle.masks.specs.Masks.{onesFrom}
 use Rattle.masks.proofs.Laws.{count-suc, count-suc-one}
-use Rattle.values.specs.declared.Coding.{Coding}
+use Rattle.forms.specs.declared.Coding.{Coding}
 use Rattle.tree.specs.Topology.{Node5}
 use Rattle.tree.specs.Blocks.{Filled5}
 use Rattle.tree.specs.Active.{Record, Piece, edgeOf, activeList}

@@ -11,10 +11,10 @@ use lib.IntN.{pos}
 use lib.ListN.{length}
 use Rattle.fields.specs.Parse.{when}
 use Rattle.half.specs.Inner.{isWidth}
-use Rattle.values.specs.Values.{numberOf}
-use Rattle.values.specs.declared.Coding.{Coding}
-use Rattle.values.specs.declared.Stored.{Stored}
-use Rattle.values.specs.declared.Stored.the-variants.{Every, Active, Childless}
+use Rattle.runs.specs.Runs.{numberOf}
+use Rattle.forms.specs.declared.Coding.{Coding}
+use Rattle.forms.specs.declared.Stored.{Stored}
+use Rattle.forms.specs.declared.Stored.the-variants.{Every, Active, Childless}
 use Rattle.tree.specs.Active.{Record, Piece}
 use Rattle.tree.specs.Inner.{recordCount}
 use Rattle.slots.specs.Slots.{Slots, laidFrom}

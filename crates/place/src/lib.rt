@@ -15,11 +15,11 @@ use coordinates::Index;
 use cursor::Cursor;
 use cursor::NextPiece;
 use cursor::Piece;
+use forms::Coding;
+use forms::Stored;
 use masks::NextOne;
 use skip::Skipped;
 use slots::Inside;
-use values::Coding;
-use values::Stored;
 
 // What a walk starts from, which tells its grid: how values are stored, where root tiles, roots and blocks start, how many tiles and roots there are,
 // and the length of the active list.

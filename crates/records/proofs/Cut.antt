@@ -10,7 +10,7 @@ use lib.ListN.{length}
 use borrow.Author.Tests.{leb-true}
 use Rattle.fields.specs.Parse.{when}
 use Rattle.masks.specs.Masks.{maskBit}
-use Rattle.values.specs.declared.Coding.{Coding}
+use Rattle.forms.specs.declared.Coding.{Coding}
 use Rattle.tree.specs.Active.{Record}
 use Rattle.slots.specs.Inner.{maskBytes, roomOf, standing}
 use Rattle.bits.specs.Inner.{isKept, recordHere, Handed, nothing, andThen, handOut}

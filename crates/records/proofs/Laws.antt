@@ -10,7 +10,7 @@ use lib.ListN.{length, length-append}
 use borrow.Author.Tests.{ltb-true, ltb-false}
 use Rattle.fields.specs.Parse.{when}
 use Rattle.masks.specs.Masks.{maskBit}
-use Rattle.values.specs.declared.Coding.{Coding}
+use Rattle.forms.specs.declared.Coding.{Coding}
 use Rattle.tree.specs.Active.{Record}
 use Rattle.slots.specs.Slots.{Slots}
 use Rattle.slots.specs.Inner.{roomOf, standing, Readable}

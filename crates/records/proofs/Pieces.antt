@@ -7,7 +7,7 @@ use native.Mathlib.Nat.{add-zero}
 use lib.ListN.{length}
 use borrow.Author.Tests.{lt-leb, le-leb, leb-true}
 use Rattle.fields.specs.Parse.{when}
-use Rattle.values.specs.declared.Coding.{Coding}
+use Rattle.forms.specs.declared.Coding.{Coding}
 use Rattle.half.specs.Inner.{isTable, isWidth}
 use Rattle.coordinates.specs.Coordinates.{aligned}
 use Rattle.coordinates.proofs.Axis.{and-both}

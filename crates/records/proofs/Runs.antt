@@ -10,7 +10,7 @@ use lib.Pow.{pow-pos}
 use borrow.Author.Tests.{eq-eqb}
 use Rattle.masks.specs.Masks.{digit, maskBit}
 use Rattle.masks.proofs.Digits.{digit-shift, digit-past}
-use Rattle.values.specs.declared.Coding.{Coding}
+use Rattle.forms.specs.declared.Coding.{Coding}
 use Rattle.tree.specs.Active.{Record}
 use Rattle.slots.specs.Slots.{Slots, laidFrom}
 use Rattle.slots.specs.Inner.{roomOf, standing, runOf}

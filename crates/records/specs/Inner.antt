@@ -8,7 +8,7 @@ use Prim.Native.Nat.{ℕ, _+_, _-_, _*_}
 use lib.Dec.{eqb, leb}
 use lib.ListN.{length}
 use Rattle.fields.specs.Parse.{when}
-use Rattle.values.specs.declared.Coding.{Coding}
+use Rattle.forms.specs.declared.Coding.{Coding}
 use Rattle.coordinates.specs.Coordinates.{aligned, places}
 use Rattle.tree.specs.Active.{sideOf, edgeOf}
 use Rattle.masks.specs.Inner.{IsMask}

@@ -10,8 +10,8 @@ ghost use Rattle.bits.specs.Inner.{Fills, InWord, handOut, handWord};
 ghost use Rattle.records.specs.Inner.{Masks, isFull, isLeaf, isInside, handPiece};
 use bits::Bits;
 use bits::Run;
+use forms::Coding;
 use slots::Inside;
-use values::Coding;
 
 // Whether a word's places are a leaf's, stored all or where active, with values in the file.
 fn is_leaf(b: Bits, room: usize) -> bool

@@ -12,7 +12,7 @@ use Rattle.coordinates.specs.Coordinates.{places, originOf}
 use Rattle.coordinates.specs.declared.GlobalCoord.{GlobalCoord}
 use Rattle.masks.specs.Masks.{maskBit, onesFrom}
 use Rattle.masks.proofs.Laws.{length-le, count-le}
-use Rattle.values.specs.declared.Coding.{Coding}
+use Rattle.forms.specs.declared.Coding.{Coding}
 use Rattle.tree.specs.Active.{Piece, edgeOf}
 use Rattle.tree.specs.Inner.{recordCount, leafCount}
 use Rattle.tree.proofs.Counting.{total}

@@ -11,7 +11,7 @@ use lib.Dec.{leb}
 use Rattle.fields.specs.Parse.{when}
 use Rattle.coordinates.proofs.Axis.{and-both}
 use Rattle.half.specs.Inner.{isWidth}
-use Rattle.values.specs.declared.Coding.{Coding}
+use Rattle.forms.specs.declared.Coding.{Coding}
 use Rattle.tree.specs.Inner.{recordCount, leafCount}
 use Rattle.tree.proofs.Counting.{total}
 use Rattle.cursor.specs.Inner.{Rest, Stop, toCome, HeldPiece}

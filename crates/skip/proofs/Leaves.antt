@@ -16,7 +16,7 @@ use Rattle.coordinates.specs.declared.GlobalCoord.{GlobalCoord}
 use Rattle.masks.specs.Masks.{maskBit, countBelow}
 use Rattle.masks.specs.Inner.{nextOne, IsMask}
 use Rattle.masks.proofs.Laws.{next-lt, agree-ones}
-use Rattle.values.specs.declared.Coding.{Coding}
+use Rattle.forms.specs.declared.Coding.{Coding}
 use Rattle.nodes.specs.Nodes.{blockField}
 use Rattle.nodes.specs.Inner.{endOf}
 use Rattle.nodes.specs.declared.Block.{Block}

@@ -13,7 +13,7 @@ use Rattle.coordinates.specs.declared.GlobalCoord.{GlobalCoord}
 use Rattle.masks.specs.Masks.{maskBit, countBelow}
 use Rattle.masks.specs.Inner.{nextOne, IsMask}
 use Rattle.masks.proofs.Laws.{next-lt, next-from}
-use Rattle.values.specs.declared.Coding.{Coding}
+use Rattle.forms.specs.declared.Coding.{Coding}
 use Rattle.nodes.specs.Nodes.{nodeField}
 use Rattle.nodes.specs.declared.NodeHeader.{NodeHeader}
 use Rattle.nodes.proofs.Laws.{node-back}

@@ -9,7 +9,7 @@ use Rattle.fields.specs.Parse.{when}
 use Rattle.coordinates.specs.Coordinates.{places}
 use Rattle.masks.specs.Masks.{onesFrom, countBelow}
 use Rattle.half.specs.Inner.{isWidth}
-use Rattle.values.specs.declared.Coding.{Coding}
+use Rattle.forms.specs.declared.Coding.{Coding}
 use Rattle.tree.specs.Active.{Piece, edgeOf}
 use Rattle.tree.specs.Inner.{recordCount, leafCount}
 use Rattle.cursor.specs.Inner.{only, refusedBy, stop, toCome, HeldPiece}

@@ -9,7 +9,7 @@ use lib.Dec.{leb}
 use lib.ListN.{length}
 use Rattle.fields.specs.Parse.{when}
 use Rattle.coordinates.specs.declared.GlobalCoord.{GlobalCoord}
-use Rattle.values.specs.declared.Coding.{Coding}
+use Rattle.forms.specs.declared.Coding.{Coding}
 use Rattle.tree.specs.Inner.{recordCount, leafCount}
 use Rattle.cursor.specs.Inner.{Stop, inNode5, inNode4, beyond, isEntered, toCome, pieceOf}
 use Rattle.cursor.specs.declared.Cursor.{Cursor}

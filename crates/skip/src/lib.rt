@@ -18,11 +18,11 @@ use cursor::Entered;
 use cursor::NextPiece;
 use cursor::Piece;
 use fields::SpanField;
+use forms::Coding;
 use masks::NextOne;
 use nodes::EndField;
 use nodes::Leaf;
 use nodes::NodeField;
-use values::Coding;
 
 // The first piece that does not fit, the cursor behind it, and the records and leaves still to be passed; or that all pieces are passed, with what is
 // left to be passed; or the check that refuses the next piece.

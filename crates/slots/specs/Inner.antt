@@ -6,7 +6,7 @@ use mathlib.Core.Bool.{true}
 use Prim.Native.Nat.{ℕ, zero, suc, _+_, _-_, _*_, _/_, _≤_}
 use lib.ListN.{length, set}
 use lib.IntN.{ℤ}
-use Rattle.values.specs.declared.Coding.{Coding}
+use Rattle.forms.specs.declared.Coding.{Coding}
 use Rattle.half.specs.Inner.{isTable, isWidth}
 use Rattle.half.specs.Half.{storedValue}
 use Rattle.coordinates.specs.Coordinates.{index, globalOf, aligned, places}

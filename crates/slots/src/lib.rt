@@ -9,7 +9,7 @@ ghost use Rattle.slots.specs.Slots.{slotsOf, put, laidFrom};
 ghost use Rattle.slots.specs.Inner.{Room, Readable, maskBytes, recordOf, cornerAt, valueAt, axisOf, ranged, runOf};
 use coordinates::GlobalCoord;
 use coordinates::Index;
-use values::Coding;
+use forms::Coding;
 
 // Where a walk stands in a piece: the piece's level, its origin, where its masks stand, which of its places are stored (0: all, 1: the active
 // ones, else those without a child), where its stored values start; the first place that is not passed, and how many places before it are stored.

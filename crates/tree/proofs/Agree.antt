@@ -14,8 +14,9 @@ use Rattle.coordinates.proofs.Laws.{place-below}
 use Rattle.masks.specs.Masks.{maskBit, onesFrom, consIf, countBelow}
 use Rattle.masks.proofs.Laws.{ones-ext}
 use Rattle.masks.proofs.Agree.{bit-same, ones-same}
-use Rattle.values.specs.declared.Coding.{Coding}
-use Rattle.values.proofs.Agree.{SameValues, place-same}
+use Rattle.forms.specs.declared.Coding.{Coding}
+use Rattle.runs.proofs.Agree.{SameValues}
+use Rattle.values.proofs.Agree.{place-same}
 use Rattle.half.specs.Inner.{isWidth}
 use Rattle.nodes.proofs.Agree.{SameNode, SameLeaf, SameBlock, node-tells, block-tells}
 use Rattle.roots.proofs.Agree.{origin-reads}

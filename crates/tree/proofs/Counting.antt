@@ -5,7 +5,7 @@ use Prim.Native.Nat.{ℕ, _+_}
 use native.Mathlib.Omega.{arith}
 use lib.ListN.{length, length-append, length-map}
 use Rattle.fields.specs.Parse.{when}
-use Rattle.values.specs.declared.Coding.{Coding}
+use Rattle.forms.specs.declared.Coding.{Coding}
 use Rattle.nodes.specs.declared.Block.{Block}
 use Rattle.tree.specs.Blocks.{Filled4, Filled5}
 use Rattle.tree.specs.Active.{leafPiece, pieces4, pieces5, pieces, recordsOf, activeList, allBlocks}

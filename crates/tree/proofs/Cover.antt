@@ -16,7 +16,7 @@ use Rattle.coordinates.proofs.Axis.{and-both}
 use Rattle.coordinates.proofs.Laws.{inside-parent, place-below, way-back, way-back-only, child-aligned, root-covers, root-only}
 use Rattle.masks.specs.Masks.{maskBit, ones, countBelow, overlap}
 use Rattle.masks.proofs.Laws.{ones-mem, ones-split, one-nth, overlap-apart}
-use Rattle.values.specs.declared.Coding.{Coding}
+use Rattle.forms.specs.declared.Coding.{Coding}
 use Rattle.coordinates.proofs.Same.{same-coord, coord-same}
 use Rattle.nodes.specs.declared.Block.{Block}
 use Rattle.roots.specs.Roots.{isAmong}

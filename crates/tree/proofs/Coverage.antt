@@ -8,7 +8,7 @@ use native.Mathlib.Omega.{arith}
 use lib.ListN.{length, getD}
 use Rattle.fields.specs.Parse.{got, when}
 use Rattle.coordinates.specs.declared.GlobalCoord.{GlobalCoord}
-use Rattle.values.specs.declared.Coding.{Coding}
+use Rattle.forms.specs.declared.Coding.{Coding}
 use Rattle.roots.specs.Roots.{isAmong}
 use Rattle.tree.specs.Topology.{Node5, rootsField}
 use Rattle.tree.specs.Blocks.{Filled5, blocksField}

@@ -16,7 +16,7 @@ use Rattle.coordinates.specs.declared.GlobalCoord.{GlobalCoord}
 use Rattle.masks.specs.Masks.{maskBit, ones, onesFrom, countBelow}
 use Rattle.masks.specs.Inner.{nextOne}
 use Rattle.masks.proofs.Laws.{next-none, next-some}
-use Rattle.values.specs.declared.Coding.{Coding}
+use Rattle.forms.specs.declared.Coding.{Coding}
 use Rattle.nodes.specs.Nodes.{nodeField}
 use Rattle.nodes.specs.Inner.{endOf}
 use Rattle.nodes.specs.declared.NodeHeader.{NodeHeader}

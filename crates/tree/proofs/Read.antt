@@ -8,7 +8,7 @@ use Rattle.fields.proofs.Laws.{Always, then-always, got-always, then-back}
 use Rattle.coordinates.specs.Coordinates.{index, globalOf, aligned}
 use Rattle.coordinates.specs.declared.GlobalCoord.{GlobalCoord}
 use Rattle.masks.specs.Masks.{maskBit, ones, overlap, agree}
-use Rattle.values.specs.declared.Coding.{Coding}
+use Rattle.forms.specs.declared.Coding.{Coding}
 use Rattle.nodes.specs.Nodes.{blockField}
 use Rattle.nodes.specs.declared.Leaf.{Leaf}
 use Rattle.nodes.specs.declared.Block.{Block}

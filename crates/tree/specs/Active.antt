@@ -8,8 +8,8 @@ use Rattle.coordinates.specs.Coordinates.{index, places, globalOf, rootOrigin, 
 use Rattle.coordinates.specs.declared.GlobalCoord.{GlobalCoord}
 use Rattle.masks.specs.Masks.{maskBit, ones, countBelow}
 use Rattle.values.specs.Values.{placeValue}
-use Rattle.values.specs.declared.Coding.{Coding}
-use Rattle.values.specs.declared.Values.{Values}
+use Rattle.forms.specs.declared.Coding.{Coding}
+use Rattle.runs.specs.declared.Values.{Values}
 use Rattle.nodes.specs.declared.Block.{Block}
 use Rattle.tree.specs.Topology.{Node4, Node5}
 use Rattle.tree.specs.Blocks.{Filled4, Filled5}

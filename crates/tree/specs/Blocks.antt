@@ -2,7 +2,7 @@
 use Prim.Native.Nat.{ℕ}
 use mathlib.Core.List.{List}
 use Rattle.fields.specs.Parse.{Parse, got, then, many}
-use Rattle.values.specs.declared.Coding.{Coding}
+use Rattle.forms.specs.declared.Coding.{Coding}
 use Rattle.nodes.specs.Nodes.{blockField}
 use Rattle.nodes.specs.declared.Block.{Block}
 use Rattle.tree.specs.Topology.{Node4, Node5}

@@ -6,7 +6,7 @@ use Rattle.fields.specs.Fields.{bytesField}
 use Rattle.coordinates.specs.Coordinates.{index, globalOf}
 use Rattle.coordinates.specs.declared.GlobalCoord.{GlobalCoord}
 use Rattle.masks.specs.Masks.{maskBit, ones}
-use Rattle.values.specs.declared.Coding.{Coding}
+use Rattle.forms.specs.declared.Coding.{Coding}
 use Rattle.nodes.specs.Nodes.{nodeField}
 use Rattle.nodes.specs.declared.NodeHeader.{NodeHeader}
 use Rattle.nodes.specs.declared.Leaf.{Leaf}

@@ -13,11 +13,11 @@ ghost use Rattle.tree.specs.Topology.{node4Field, childField, node5Field
 use coordinates::GlobalCoord;
 use coordinates::Index;
 use fields::SpanField;
+use forms::Coding;
 use masks::NextOne;
 use nodes::EndField;
 use nodes::NodeField;
 use roots::OriginField;
-use values::Coding;
 
 // A 4-node, of whatever origin. Its leaves' masks stand behind it in a row, so that their count tells where they end.
 fn pass_node4(s: &[u8], c: Coding, at: usize) -> EndField

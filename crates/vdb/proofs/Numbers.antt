@@ -26,10 +26,11 @@ use Rattle.transform.specs.Transform.{mapKindField, scaleField, scaleTranslateF
 use Rattle.transform.specs.declared.MapKind.{MapKind}
 use Rattle.transform.specs.declared.MapKind.the-variants as MK
 use Rattle.coordinates.specs.declared.GlobalCoord.{GlobalCoord}
-use Rattle.values.specs.Values.{formSelected, formField, inactiveField, selectionField, inactivesField, headField, runField, valuesField}
-use Rattle.values.specs.declared.Coding.{Coding}
-use Rattle.values.specs.declared.Form.{Form}
-use Rattle.values.specs.declared.Stored.{Stored}
+use Rattle.forms.specs.Forms.{formSelected, formField, inactiveField, selectionField, inactivesField, headField}
+use Rattle.runs.specs.Runs.{runField, valuesField}
+use Rattle.forms.specs.declared.Coding.{Coding}
+use Rattle.forms.specs.declared.Form.{Form}
+use Rattle.forms.specs.declared.Stored.{Stored}
 use Rattle.nodes.specs.Nodes.{nodeField, oldField, blockField}
 use Rattle.nodes.specs.Nodes as N
 use Rattle.nodes.specs.declared.Block.{Block}

@@ -10,7 +10,7 @@ use Rattle.fields.specs.Parse.{when}
 use Rattle.fields.specs.Fields.{iVec3At}
 use Rattle.fields.proofs.Laws.{field-past}
 use Rattle.coordinates.specs.Coordinates.{places}
-use Rattle.values.specs.declared.Coding.{Coding}
+use Rattle.forms.specs.declared.Coding.{Coding}
 use Rattle.tree.specs.Active.{edgeOf}
 use Rattle.bits.specs.Inner.{cutOff}
 use Rattle.records.specs.Inner.{handPiece}

@@ -3,10 +3,10 @@
 use coordinates::GlobalCoord;
 use cursor::Cursor;
 use cursor::Entered;
+use forms::Coding;
 use place::Place;
 use place::Start;
 use slots::Inside;
-use values::Coding;
 
 pub const COUNT: usize = 35;
 

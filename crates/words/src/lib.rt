@@ -7,10 +7,10 @@ ghost use Rattle.words.specs.Words.{pattern, low32, at, layout, hasLayou
 use coordinates::GlobalCoord;
 use cursor::Cursor;
 use cursor::Entered;
+use forms::Coding;
 use place::Place;
 use place::Start;
 use slots::Inside;
-use values::Coding;
 
 const LAYOUT: u32 = 1;
 

@@ -2,7 +2,7 @@
 use borrow.Author.Needs.{needs}
 use mathlib.Core.Path.{refl, sym, _∙_}
 use Rattle.fields.proofs.Laws.{then-got, then-fails, told}
-use Rattle.values.specs.Inner.{saysValues}
+use Rattle.runs.specs.Inner.{saysValues}
 use Rattle.nodes.specs.Inner.{endOf, saysEnd}
 use Rattle.nodes.proofs.Laws.{block-parts, head-back}
 use Rattle.nodes.proofs.pass_block.Statement.{statement}

@@ -6,7 +6,8 @@ use Prim.Native.Nat.{_≤_, _-_}
 use native.Mathlib.Omega.{arith}
 use lib.ListN.{length, take, length-set}
 use Rattle.masks.proofs.Laws.{ones-none}
-use Rattle.values.specs.Values.{numberOf, valuesFrom, leafValues}
+use Rattle.runs.specs.Runs.{numberOf}
+use Rattle.values.specs.Values.{valuesFrom, leafValues}
 use Rattle.values.proofs.Laws.{fill-more, fill-all}
 use Rattle.values.proofs.fill_places.Statement.{statement}
 use Rattle.values.proofs.fill_places.Tie as tie

@@ -1,8 +1,8 @@
 -- What a read gives is what `place_value` asks.
 use borrow.Author.Needs.{needs}
 use Rattle.fields.proofs.Laws.{told}
-use Rattle.values.proofs.Laws.{values-held}
-use Rattle.values.specs.Inner.{saysValues}
+use Rattle.runs.proofs.Laws.{values-held}
+use Rattle.runs.specs.Inner.{saysValues}
 use Rattle.parts.proofs.layers.value_of.Statement.{statement}
 use Rattle.parts.proofs.layers.value_of.Tie as tie
 
