@@ -20,6 +20,9 @@ module _ (c : tie.After-walk) where
   abbrev size : ℕ
   size = sized (c .before) .portion-size .result
 
+  size-is : size ≡ min 64 (start .args .slots - start .args .past .filled)
+  size-is = sized (c .before) .portion-size .ensures
+
   abbrev value : List ℕ
   value = c .walk .last .1 .1 .1 .1 .1 .1 .0
 
@@ -50,7 +53,7 @@ module _ (c : tie.After-w) where
   handed : let a = start call .args in c .w .given .0 .0 .filled ≤ min 64 (a .slots - a .past .filled)
   handed =
       let a = start call .args in
-      walked-few (a .s .now) (a .past) (a .slots) _ _ [] (lent-count (size call) _ (sized (call .before) .portion-size .ensures)) (call .walk .ensures) (c .w .given .1)
+      walked-few (a .s .now) (a .past) (a .slots) _ _ [] (lent-count (size call) _ (size-is call)) (call .walk .ensures) (c .w .given .1)
 
 few : tie.Need-in-a-row-requires
 few c κs = let w = counted (c .before) in let k = call w .walk .kept .1 .1 in few-slots _ _ _ _ _ _ _ (handed w) (k .0) (k .1 .0) (k .1 .1 .0) (k .1 .1 .1 .0) (back (call w))
@@ -60,15 +63,14 @@ returns c =
     let w = counted (c .before .before) in
     let k = call w in
     let a = start k .args in
-    let e = sized (k .before) .portion-size .ensures in
-    walked (a .s .now) (a .past) (a .slots) _ _ (c .in-a-row .result) (lent-count (size k) _ e) _ (k .walk .ensures) (w .w .given .1) (lent-long (size k) _ (value k) e (kept k)) (c .in-a-row .ensures)
+    walked (a .s .now) (a .past) (a .slots) _ _ (c .in-a-row .result) (lent-count (size k) _ (size-is k)) _ (k .walk .ensures) (w .w .given .1) (lent-long (size k) _ (value k) (size-is k) (kept k)) (c .in-a-row .ensures)
 
 returns-2 : tie.Need-returns-2
 returns-2 c =
     let r = refusal (c .before .before) in
     let k = called (r .before .before) in
     let a = start k .args in
-    refused (a .s .now) (a .past) (a .slots) _ _ (c .before .in-a-row2 .result) (lent-count (size k) _ (sized (k .before) .portion-size .ensures)) (k .walk .ensures) (r .k .given .1) (c .ended .ensures)
+    refused (a .s .now) (a .past) (a .slots) _ _ (c .before .in-a-row2 .result) (lent-count (size k) _ (size-is k)) (k .walk .ensures) (r .k .given .1) (c .ended .ensures)
 
 pub next-portion-spec : {M : Type 1} → statement M
 next-portion-spec =
