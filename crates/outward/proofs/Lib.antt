@@ -1,2 +1,3 @@
 mod Laws
 pub mod Doubles
+pub mod Laid

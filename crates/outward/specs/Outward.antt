@@ -1,10 +1,11 @@
--- What an answer looks like as plain words.
+-- What an answer looks like as plain words, and what a call from another language leaves.
 use Prim.Native.Nat.{ℕ, zero, suc, _+_, _-_, _*_}
 use mathlib.Core.List.{List, [], _∷_, _++_}
 use mathlib.Core.Bool.{Bool, true, false}
 use lib.Dec.{ltb}
 use Rattle.fields.specs.Le.{u64At}
 use Rattle.fields.specs.Parse.{when}
+use Rattle.fields.specs.Answer.{Answer, gives, refuses}
 use Rattle.header.specs.declared.ArchiveHeader.{ArchiveHeader}
 use Rattle.descriptor.specs.declared.GridDescriptor.{GridDescriptor}
 use Rattle.descriptor.specs.declared.HalfEntry.{HalfEntry}
@@ -15,6 +16,11 @@ use Rattle.transform.specs.declared.Map.{Map}
 use Rattle.transform.specs.declared.Map.the-variants as M
 use Rattle.grid.specs.declared.OpenedGrid.{OpenedGrid}
 use Rattle.words.specs.Words.{pattern}
+
+-- Section 8: 0, and the words of what the answer gives in the place of what was lent; or the check's number, and what was lent as it was.
+unfoldable pub laid : {A B : Type 0} → Answer A → (A → B) → B → ℕ × B
+laid (gives a) words lent = (0, words a)
+laid (refuses k) words lent = (k, lent)
 
 abbrev pub flag : Bool → ℕ
 flag true = 1

@@ -15,7 +15,8 @@ use Rattle.walk.specs.Demand3.{Calls}
 use Rattle.walk.specs.declared.Walked.{Walked}
 use Rattle.walk.proofs.Demand3.{answered, demand3}
 use Rattle.words.specs.Words.{StandFor}
-use Rattle.vdb.specs.Vdb.{laid, walkWords, OpenCall}
+use Rattle.outward.specs.Outward.{laid}
+use Rattle.grid_calls.specs.Calls.{walkWords, OpenCall}
 use Rattle.vdb.specs.Calls.{WordCall, Chained, walkCalls, Served, Walks}
 
 -- what an answer that gives w leaves

@@ -1,3 +1,2 @@
-mod Laws
 pub mod Calls
 pub mod Numbers

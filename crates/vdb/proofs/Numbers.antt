@@ -47,7 +47,8 @@ use Rattle.slots.specs.Slots.{Slots}
 use Rattle.walk.specs.Walk.{saysWalk}
 use Rattle.walk.specs.declared.Walked.{Walked}
 use Rattle.words.specs.Words.{at, layout, hasLayout, startBy, placeBy, startWords, wordsOf}
-use Rattle.vdb.specs.Vdb.{laid, openWords, walkWords, OpenCall, WalkCall}
+use Rattle.outward.specs.Outward.{laid}
+use Rattle.grid_calls.specs.Calls.{openWords, walkWords, OpenCall, WalkCall}
 use Rattle.vdb.specs.Calls.{WordCall, Chained, Walks}
 use Rattle.vdb.proofs.Calls.{walks}
 

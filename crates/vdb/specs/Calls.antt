@@ -9,7 +9,7 @@ use Rattle.walk.specs.Demand3.{Call, Demand3}
 use Rattle.walk.specs.declared.Walked.{Walked}
 use Rattle.fields.specs.Answer.{gives}
 use Rattle.grid.specs.declared.OpenedGrid.{OpenedGrid}
-use Rattle.vdb.specs.Vdb.{WalkCall}
+use Rattle.grid_calls.specs.Calls.{WalkCall}
 
 -- A call, as it ended: the words of the place, the counts and the slots lent, the number returned, and what the three then hold.
 pub record WordCall (s : List ℕ) : Type 0 where

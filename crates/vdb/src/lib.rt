@@ -1,6 +1,6 @@
-// The reader for programs in C and Rust: the functions of the static library libvdb.a, which include/vdb.h tells. Each takes the library's answer and lays
-// its numbers into lent arrays. What it returns is 0, or the number of the check that refused; then nothing lent is changed. A slice crosses as a
-// pointer and a length, an array as a pointer.
+// The reader for programs in C and Rust: the functions of the static library libvdb.a, which include/vdb.h tells. Only what one crate exports goes into the
+// library, so that each function stands here and hands on to the crate that has it. What it returns is 0, or the number of the check that refused; then
+// nothing lent is changed. A slice crosses as a pointer and a length, an array as a pointer.
 ghost use mathlib.Core.Path.{_≡_};
 ghost use lib.ListN.{length};
 ghost use Rattle.archive.specs.Archive.{openFile, gridNamed, gridNumbered, fileEntry, gridEntryNamed, gridEntryNumbered};
@@ -9,14 +9,8 @@ ghost use Rattle.leaves.specs.Leaves.{fillLeafNamed, fillLeafNumbered, fillLeav
 ghost use Rattle.origins.specs.Origins.{axes, leafOriginsNamed, leafOriginsNumbered};
 ghost use Rattle.slots.specs.Slots.{slotsOf};
 ghost use Rattle.words.specs.Words.{layout};
-ghost use Rattle.outward.specs.Outward.{headerWords, descriptorWords, entryWords};
-ghost use Rattle.vdb.specs.Vdb.{laid, OpenCall, WalkCall};
-use answers::DescriptorAnswer;
-use answers::EntryAnswer;
-use answers::HeaderAnswer;
-use grid::GridAnswer;
-use leaves::FillAnswer;
-use walk::WalkAnswer;
+ghost use Rattle.outward.specs.Outward.{laid, headerWords, descriptorWords, entryWords};
+ghost use Rattle.grid_calls.specs.Calls.{OpenCall, WalkCall};
 
 // The number of the layout of all that is lent: a caller that was built for another one lends nothing.
 #[no_mangle]
@@ -31,13 +25,7 @@ pub extern "C" fn vdb_layout() -> u32
 pub extern "C" fn vdb_open_file(s: &[u8], out: &mut [u64; 8]) -> u32
     ensures { λ r. ⌜ (r, now (out .exit)) ≡ laid (openFile (now (s .entry))) headerWords (now (out .entry)) ⌝ }
 {
-    match answers::open_file(s) {
-        HeaderAnswer::Refused(k) => k,
-        HeaderAnswer::Header(h) => {
-            *out = outward::header_words(h);
-            0
-        }
-    }
+    file_calls::open_file(s, out)
 }
 
 // The descriptor of the grid of this name.
@@ -45,13 +33,7 @@ pub extern "C" fn vdb_open_file(s: &[u8], out: &mut [u64; 8]) -> u32
 pub extern "C" fn vdb_grid_named(s: &[u8], name: &[u8], out: &mut [u64; 16]) -> u32
     ensures { λ r. ⌜ (r, now (out .exit)) ≡ laid (gridNamed (now (s .entry)) (now (name .entry))) descriptorWords (now (out .entry)) ⌝ }
 {
-    match answers::grid_named(s, name) {
-        DescriptorAnswer::Refused(k) => k,
-        DescriptorAnswer::Descriptor(d) => {
-            *out = outward::descriptor_words(d);
-            0
-        }
-    }
+    file_calls::grid_named(s, name, out)
 }
 
 // The descriptor of the grid with this number, from 0.
@@ -59,13 +41,7 @@ pub extern "C" fn vdb_grid_named(s: &[u8], name: &[u8], out: &mut [u64; 16]) -> 
 pub extern "C" fn vdb_grid_numbered(s: &[u8], n: u32, out: &mut [u64; 16]) -> u32
     ensures { λ r. ⌜ (r, now (out .exit)) ≡ laid (gridNumbered (now (s .entry)) n) descriptorWords (now (out .entry)) ⌝ }
 {
-    match answers::grid_numbered(s, n) {
-        DescriptorAnswer::Refused(check) => check,
-        DescriptorAnswer::Descriptor(d) => {
-            *out = outward::descriptor_words(d);
-            0
-        }
-    }
+    file_calls::grid_numbered(s, n, out)
 }
 
 // An entry of the file's metadata.
@@ -73,13 +49,7 @@ pub extern "C" fn vdb_grid_numbered(s: &[u8], n: u32, out: &mut [u64; 16]) -> u3
 pub extern "C" fn vdb_file_entry(s: &[u8], name: &[u8], out: &mut [u64; 5]) -> u32
     ensures { λ r. ⌜ (r, now (out .exit)) ≡ laid (fileEntry (now (s .entry)) (now (name .entry))) entryWords (now (out .entry)) ⌝ }
 {
-    match answers::file_entry(s, name) {
-        EntryAnswer::Refused(k) => k,
-        EntryAnswer::Value(v) => {
-            *out = outward::entry_words(v);
-            0
-        }
-    }
+    file_calls::file_entry(s, name, out)
 }
 
 // An entry of the metadata of the grid of this name.
@@ -92,13 +62,7 @@ pub extern "C" fn vdb_grid_entry_named(
 ) -> u32
     ensures { λ r. ⌜ (r, now (out .exit)) ≡ laid (gridEntryNamed (now (s .entry)) (now (grid .entry)) (now (name .entry))) entryWords (now (out .entry)) ⌝ }
 {
-    match answers::grid_entry_named(s, grid, name) {
-        EntryAnswer::Refused(k) => k,
-        EntryAnswer::Value(v) => {
-            *out = outward::entry_words(v);
-            0
-        }
-    }
+    file_calls::grid_entry_named(s, grid, name, out)
 }
 
 // An entry of the metadata of the grid with this number, from 0.
@@ -106,13 +70,7 @@ pub extern "C" fn vdb_grid_entry_named(
 pub extern "C" fn vdb_grid_entry_numbered(s: &[u8], n: u32, name: &[u8], out: &mut [u64; 5]) -> u32
     ensures { λ r. ⌜ (r, now (out .exit)) ≡ laid (gridEntryNumbered (now (s .entry)) n (now (name .entry))) entryWords (now (out .entry)) ⌝ }
 {
-    match answers::grid_entry_numbered(s, n, name) {
-        EntryAnswer::Refused(k) => k,
-        EntryAnswer::Value(v) => {
-            *out = outward::entry_words(v);
-            0
-        }
-    }
+    file_calls::grid_entry_numbered(s, n, name, out)
 }
 
 // Opens the grid of this name.
@@ -125,15 +83,7 @@ pub extern "C" fn vdb_open_grid_named(
 ) -> u32
     ensures { λ r. ⌜ OpenCall (now (s .entry)) (openGridNamed (now (s .entry)) (now (name .entry))) (now (out .entry)) (now (place .entry)) r (now (out .exit)) (now (place .exit)) ⌝ }
 {
-    match grid::open_grid_named(s, name) {
-        GridAnswer::Refused(k) => k,
-        GridAnswer::Grid(g) => {
-            let fresh = g.place;
-            *out = outward::opened_words(s, g);
-            *place = words::words_of(fresh);
-            0
-        }
-    }
+    grid_calls::open_grid_named(s, name, out, place)
 }
 
 // Opens the grid with this number, from 0.
@@ -146,15 +96,7 @@ pub extern "C" fn vdb_open_grid_numbered(
 ) -> u32
     ensures { λ r. ⌜ OpenCall (now (s .entry)) (openGridNumbered (now (s .entry)) n) (now (out .entry)) (now (place .entry)) r (now (out .exit)) (now (place .exit)) ⌝ }
 {
-    match grid::open_grid_numbered(s, n) {
-        GridAnswer::Refused(check) => check,
-        GridAnswer::Grid(g) => {
-            let fresh = g.place;
-            *out = outward::opened_words(s, g);
-            *place = words::words_of(fresh);
-            0
-        }
-    }
+    grid_calls::open_grid_numbered(s, n, out, place)
 }
 
 // The walk call: the records that follow a place, into lent slots. Words of another layout are no place of these bytes.
@@ -171,19 +113,7 @@ pub extern "C" fn vdb_walk(
 ) -> u32
     ensures { λ r. ⌜ WalkCall (now (s .entry)) (now (place .entry)) (now (counts .entry)) (slotsOf (now (x .entry)) (now (y .entry)) (now (z .entry)) (now (level .entry)) (now (value .entry))) r (now (place .exit)) (now (counts .exit)) (slotsOf (now (x .exit)) (now (y .exit)) (now (z .exit)) (now (level .exit)) (now (value .exit))) ⌝ }
 {
-    let kept = *place;
-    if !words::has_layout(kept) {
-        return 22;
-    }
-    match walk::walk(s, words::place_of(kept), x, y, z, level, value) {
-        WalkAnswer::Refused(k) => k,
-        WalkAnswer::Walked(w) => {
-            let next = w.place;
-            *place = words::words_of(next);
-            *counts = [w.filled as u64, w.left];
-            0
-        }
-    }
+    grid_calls::walk(s, place, x, y, z, level, value, counts)
 }
 
 // Writes the 512 values of a leaf, by its number from 0, of the grid of this name.
@@ -191,10 +121,7 @@ pub extern "C" fn vdb_walk(
 pub extern "C" fn vdb_fill_leaf_named(s: &[u8], name: &[u8], number: u64, slots: &mut [u32]) -> u32
     ensures { λ r. ⌜ (r, now (slots .exit)) ≡ laid (fillLeafNamed (now (s .entry)) (now (name .entry)) number (length (now (slots .entry)))) (λ values. values) (now (slots .entry)) ⌝ }
 {
-    match leaves::fill_leaf_named(s, name, number, slots) {
-        FillAnswer::Refused(k) => k,
-        FillAnswer::Filled => 0,
-    }
+    leaf_calls::fill_leaf_named(s, name, number, slots)
 }
 
 // The same for the grid with this number, from 0.
@@ -202,10 +129,7 @@ pub extern "C" fn vdb_fill_leaf_named(s: &[u8], name: &[u8], number: u64, slots:
 pub extern "C" fn vdb_fill_leaf_numbered(s: &[u8], n: u32, number: u64, slots: &mut [u32]) -> u32
     ensures { λ r. ⌜ (r, now (slots .exit)) ≡ laid (fillLeafNumbered (now (s .entry)) n number (length (now (slots .entry)))) (λ values. values) (now (slots .entry)) ⌝ }
 {
-    match leaves::fill_leaf_numbered(s, n, number, slots) {
-        FillAnswer::Refused(k) => k,
-        FillAnswer::Filled => 0,
-    }
+    leaf_calls::fill_leaf_numbered(s, n, number, slots)
 }
 
 // Writes the values of the leaves from a number on, 512 slots each, of the grid of this name.
@@ -213,10 +137,7 @@ pub extern "C" fn vdb_fill_leaf_numbered(s: &[u8], n: u32, number: u64, slots: &
 pub extern "C" fn vdb_fill_leaves_named(s: &[u8], name: &[u8], first: u64, slots: &mut [u32]) -> u32
     ensures { λ r. ⌜ (r, now (slots .exit)) ≡ laid (fillLeavesNamed (now (s .entry)) (now (name .entry)) first (length (now (slots .entry)))) (λ values. values) (now (slots .entry)) ⌝ }
 {
-    match leaves::fill_leaves_named(s, name, first, slots) {
-        FillAnswer::Refused(k) => k,
-        FillAnswer::Filled => 0,
-    }
+    leaf_calls::fill_leaves_named(s, name, first, slots)
 }
 
 // The same for the grid with this number, from 0.
@@ -224,10 +145,7 @@ pub extern "C" fn vdb_fill_leaves_named(s: &[u8], name: &[u8], first: u64, slots
 pub extern "C" fn vdb_fill_leaves_numbered(s: &[u8], n: u32, first: u64, slots: &mut [u32]) -> u32
     ensures { λ r. ⌜ (r, now (slots .exit)) ≡ laid (fillLeavesNumbered (now (s .entry)) n first (length (now (slots .entry)))) (λ values. values) (now (slots .entry)) ⌝ }
 {
-    match leaves::fill_leaves_numbered(s, n, first, slots) {
-        FillAnswer::Refused(k) => k,
-        FillAnswer::Filled => 0,
-    }
+    leaf_calls::fill_leaves_numbered(s, n, first, slots)
 }
 
 // Writes the origins of the leaves from a number on, into three slices of one length, of the grid of this name.
@@ -242,10 +160,7 @@ pub extern "C" fn vdb_leaf_origins_named(
 ) -> u32
     ensures { λ r. ⌜ (r, axes (now (x .exit)) (now (y .exit)) (now (z .exit))) ≡ laid (leafOriginsNamed (now (s .entry)) (now (name .entry)) first (length (now (x .entry))) (length (now (y .entry))) (length (now (z .entry)))) (λ origins. origins) (axes (now (x .entry)) (now (y .entry)) (now (z .entry))) ⌝ }
 {
-    match origins::origins_named(s, name, first, x, y, z) {
-        FillAnswer::Refused(k) => k,
-        FillAnswer::Filled => 0,
-    }
+    leaf_calls::leaf_origins_named(s, name, first, x, y, z)
 }
 
 // The same for the grid with this number, from 0.
@@ -260,8 +175,5 @@ pub extern "C" fn vdb_leaf_origins_numbered(
 ) -> u32
     ensures { λ r. ⌜ (r, axes (now (x .exit)) (now (y .exit)) (now (z .exit))) ≡ laid (leafOriginsNumbered (now (s .entry)) n first (length (now (x .entry))) (length (now (y .entry))) (length (now (z .entry)))) (λ origins. origins) (axes (now (x .entry)) (now (y .entry)) (now (z .entry))) ⌝ }
 {
-    match origins::origins_numbered(s, n, first, x, y, z) {
-        FillAnswer::Refused(k) => k,
-        FillAnswer::Filled => 0,
-    }
+    leaf_calls::leaf_origins_numbered(s, n, first, x, y, z)
 }

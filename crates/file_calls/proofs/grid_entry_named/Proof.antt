@@ -1,0 +1,14 @@
+-- The answer's words are laid into what was lent, or nothing is.
+use borrow.Author.Needs.{needs}
+use Rattle.answers.specs.Answers.{saysEntryAnswer}
+use Rattle.outward.proofs.Laid.{laying, laid-by}
+use Rattle.file_calls.proofs.grid_entry_named.Statement.{statement}
+use Rattle.file_calls.proofs.grid_entry_named.Tie as tie
+
+pub grid-entry-named-spec : {M : Type 1} → statement M
+grid-entry-named-spec =
+    tie.close
+    (tie.spec
+    (λ c κs. search needs) (λ c. search needs) (λ c. search needs) (λ c κs. search needs)
+    (λ c. search (laying, laid-by saysEntryAnswer))
+    (λ c. search (laying, laid-by saysEntryAnswer)))
