@@ -228,50 +228,50 @@ skipped-le stored b z = go (eqb stored 0) (eqb stored 1)
     go false true = omega arith
     go false false = omega arith
 
-module _ (table s : List ℕ) (c : Coding) (room : ℕ) where
-  pub sums-fit : (b : Bits) → Readable table s c room (b .inside) → InWord s b → SumsFit b
+module _ (s : List ℕ) (c : Coding) (room : ℕ) where
+  pub sums-fit : (b : Bits) → Readable s c room (b .inside) → InWord s b → SumsFit b
   sums-fit b h word =
       let m = masked (b .inside .level) in
       record { word = word .word; places = omega (arith, word .places, m .small, m .bits); number = h .number }
 
   -- What is known at an active place.
   pub record Active (b : Bits) : Type 0 where
-    pub readable : Readable table s c room (b .inside)
+    pub readable : Readable s c room (b .inside)
     pub word : InWord s b
     pub some-left : 0 < b .left
     pub active : maskBit s (b .inside .«value_mask») (b .inside .from) ≡ true
 
   pub active-there :
-      (b r : Bits) → Readable table s c room (b .inside) → InWord s b → (b .ones ≡ 0 → ⊥) → r ≡ shifted b (trailingZeros 64 (b .ones)) → Active r
+      (b r : Bits) → Readable s c room (b .inside) → InWord s b → (b .ones ≡ 0 → ⊥) → r ≡ shifted b (trailingZeros 64 (b .ones)) → Active r
   active-there b r h word some-active e =
       let l = gap-inside s b word some-active in
       let a = word-active s b word some-active in
       rw e record {
-        readable = readable-on table s c room (b .inside) _ _ (omega (arith, h .number, skipped-le (b .inside .stored) (b .children) (trailingZeros 64 (b .ones)))) h;
+        readable = readable-on s c room (b .inside) _ _ (omega (arith, h .number, skipped-le (b .inside .stored) (b .children) (trailingZeros 64 (b .ones)))) h;
         word = a .0;
         some-left = omega arith;
         active = a .1;
       }
 
-  pub readable-past : (b : Bits) (n : ℕ) → Readable table s c room (b .inside) → Readable table s c room (pastActive b n .inside)
-  readable-past b n h = readable-on table s c room (b .inside) _ _ (omega (arith, h .number)) h
+  pub readable-past : (b : Bits) (n : ℕ) → Readable s c room (b .inside) → Readable s c room (pastActive b n .inside)
+  readable-past b n h = readable-on s c room (b .inside) _ _ (omega (arith, h .number)) h
 
 -- A turn of the loop over a word: the next active place's record, or its value lies past the end.
-module _ (table s : List ℕ) (c : Coding) (room : ℕ) (b r : Bits) (h : Readable table s c room (b .inside)) (word : InWord s b) (some-active : b .ones ≡ 0 → ⊥)
+module _ (s : List ℕ) (c : Coding) (room : ℕ) (b r : Bits) (h : Readable s c room (b .inside)) (word : InWord s b) (some-active : b .ones ≡ 0 → ⊥)
     (e : r ≡ shifted b (trailingZeros 64 (b .ones))) (limit i : ℕ) (wanted : i < limit) where
   pub at-active : handWord s c (limit - i) b ≡ handWord s c (limit - i) r
   at-active = hand-active s b word some-active c (limit - i) (omega arith) ∙ ap (handWord s c (limit - i)) (sym e)
 
   pub turn-cut : room ≤ r .inside .number → handWord s c (limit - i) b ≡ cutOff (r .inside)
   turn-cut l =
-      let a = active-there table s c room b r h word some-active e in
+      let a = active-there s c room b r h word some-active e in
       at-active ∙ hand-cut s r (a .word) (a .some-left) c (limit - i) (omega arith) (a .active) (rw (a .readable .values) at l)
 
   pub turn-one :
       {b′ : Bits} {q : Record} → r .inside .number < room → q ≡ recordHere s c (r .inside) → b′ ≡ pastActive r 1 →
       handWord s c (limit - i) b ≡ andThen q (handWord s c (limit - (i + 1)) b′)
   turn-one {b′} {q} l d f =
-      let a = active-there table s c room b r h word some-active e in
+      let a = active-there s c room b r h word some-active e in
       let n : limit - i - 1 ≡ limit - (i + 1) = omega arith in
       at-active ∙ rw (d, f, ← n) (hand-one s r (a .word) (a .some-left) c (limit - i) (omega arith) (a .active) (rw (a .readable .values) at l))
 

@@ -167,7 +167,7 @@ begins s c want i b t e =
     subst (λ (x : Bits). Going i (handWord s c want x) t i (handWord s c want b) t) (sym first) (starts i (handWord s c want b) t)
 
 -- A leaf's word behind p places, k of them active.
-module _ (table s : List ℕ) (c : Coding) (room : ℕ) (b : Bits) (h : Readable table s c room (b .inside)) (word : InWord s b) (leaf : LeafWord room b) where
+module _ (s : List ℕ) (c : Coding) (room : ℕ) (b : Bits) (h : Readable s c room (b .inside)) (word : InWord s b) (leaf : LeafWord room b) where
   pub leaf-multiple : aligned 8 (b .inside .origin) ≡ true
   leaf-multiple = ap (λ (n : ℕ). aligned (edgeOf n * sideOf n) (b .inside .origin)) (sym (leaf .level)) ∙ h .multiple
 
@@ -178,8 +178,8 @@ module _ (table s : List ℕ) (c : Coding) (room : ℕ) (b : Bits) (h : Readable
   at p k = past b p (numberIn (b .inside) p k)
 
   module _ (p k : ℕ) (few : k ≤ p) (in-word : p ≤ b .left) where
-    readable : Readable table s c room (at p k .inside)
-    readable = readable-on table s c room (b .inside) (b .inside .from + p) _ (omega (arith, number-le (b .inside) p k few, h .number)) h
+    readable : Readable s c room (at p k .inside)
+    readable = readable-on s c room (b .inside) (b .inside .from + p) _ (omega (arith, number-le (b .inside) p k few, h .number)) h
 
     rest : InWord s (at p k)
     rest = word-past s b word p (numberIn (b .inside) p k) in-word
@@ -211,5 +211,5 @@ module _ (table s : List ℕ) (c : Coding) (room : ℕ) (b : Bits) (h : Readable
           ap (at (q + 1)) count ∙ ap (past b (q + 1)) (sym (number-next (b .inside) q k)) ∙ sym (past-past b q (numberIn (b .inside) q k) 1 _) in
           let in-file : numberIn (b .inside) q k < room = omega (arith, number-le (b .inside) q k (omega arith), one-inside, leaf .values) in
           let corner = d ∙ ap (λ (n : ℕ). globalOf (edgeOf n) (sideOf n) (b .inside .origin) (index (b .inside .from + q))) (sym (leaf .level)) in
-          turn-one table s c room (at p k) r readable rest some-set reached limit i l in-file
+          turn-one s c room (at p k) r readable rest some-set reached limit i l in-file
           (ap (λ (n : ℕ). recordOf o n v) (sym (leaf .level)) ∙ record-is s c (r .inside) corner (rw f at e)) next

@@ -93,7 +93,6 @@ fn past_active(b: Bits) -> Bits
 // The records of a word's places, of whatever piece, into the slots from `slot` on, no further than `limit`. A value is read only where its number
 // is below `room`, so that it lies in the file.
 pub fn fill_any(
-    table: &[u32],
     s: &[u8],
     c: Coding,
     room: usize,
@@ -106,7 +105,7 @@ pub fn fill_any(
     level: &mut [u32],
     value: &mut [u32],
 ) -> Run
-    requires { ⌜ Readable (now table) (now s) c room (word .inside) × InWord (now s) word × Room limit (slotsOf (now x) (now y) (now z) (now level) (now value)) ⌝ }
+    requires { ⌜ Readable (now s) c room (word .inside) × InWord (now s) word × Room limit (slotsOf (now x) (now y) (now z) (now level) (now value)) ⌝ }
     ensures { λ r. ⌜ Fills slot (handWord (now (s .entry)) c (limit - slot) word) (slotsOf (now (x .entry)) (now (y .entry)) (now (z .entry)) (now (level .entry)) (now (value .entry))) (slotsOf (now (x .exit)) (now (y .exit)) (now (z .exit)) (now (level .exit)) (now (value .exit))) r ⌝ }
 {
     let mut b = word;
@@ -124,7 +123,7 @@ pub fn fill_any(
             whole = false;
             break;
         }
-        let v = values::stored_with(table, s, c, w.start, w.number);
+        let v = values::stored_value(s, c, w.start, w.number);
         slots::put_record(
             at,
             slots::corner(w.level, w.origin, Index(w.from)),
@@ -180,7 +179,6 @@ fn stand(w: Inside, p: u32, k: usize) -> Inside
 // The same as `fill_any` for a leaf's places, whose values lie in the file: one by one from the lowest bit that is set on. Level, side and step are
 // constants here, and the next one does not wait for the place of the one before.
 pub fn fill_ones(
-    table: &[u32],
     s: &[u8],
     c: Coding,
     room: usize,
@@ -193,7 +191,7 @@ pub fn fill_ones(
     level: &mut [u32],
     value: &mut [u32],
 ) -> Run
-    requires { ⌜ Readable (now table) (now s) c room (word .inside) × InWord (now s) word × LeafWord room word × Room limit (slotsOf (now x) (now y) (now z) (now level) (now value)) ⌝ }
+    requires { ⌜ Readable (now s) c room (word .inside) × InWord (now s) word × LeafWord room word × Room limit (slotsOf (now x) (now y) (now z) (now level) (now value)) ⌝ }
     ensures { λ r. ⌜ Fills slot (handWord (now (s .entry)) c (limit - slot) word) (slotsOf (now (x .entry)) (now (y .entry)) (now (z .entry)) (now (level .entry)) (now (value .entry))) (slotsOf (now (x .exit)) (now (y .exit)) (now (z .exit)) (now (level .exit)) (now (value .exit))) r ⌝ }
 {
     let w = word.inside;
@@ -209,7 +207,7 @@ pub fn fill_ones(
             };
         }
         let q = u64::trailing_zeros(ones);
-        let v = values::stored_with(table, s, c, w.start, number_behind(w, q, i - slot));
+        let v = values::stored_value(s, c, w.start, number_behind(w, q, i - slot));
         slots::put_record(
             i,
             slots::corner(0, w.origin, Index(w.from + q)),

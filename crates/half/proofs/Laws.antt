@@ -1,24 +1,25 @@
--- Laws of widening, in the order: what a half's value is, that binary32 holds it, the pattern of each kind of half, the table, the two widths.
-use mathlib.Core.Path.{_≡_, refl, sym, ap, ap₂, _∙_, subst, subst₂}
+-- Laws of widening, in the order: what a half's value is, that binary32 holds it, the pattern of each kind of half, a subnormal half
+-- worked out, the two widths, runs of normal halves.
+use mathlib.Core.Path.{_≡_, refl, sym, ap, ap₂, _∙_, subst}
 use mathlib.Core.Bool.{Bool, true, false, not, _&&_, cond}
 use mathlib.Core.List.{List}
-use Prim.Native.Nat.{ℕ, zero, suc, _+_, _*_, _/_, _%_, _^_, _≤_, _<_}
-use native.Mathlib.Nat.{le-of-lt, lt-of-lt-of-le, lt-irrefl, mul-one}
+use Prim.Native.Nat.{ℕ, zero, suc, _+_, _-_, _*_, _/_, _%_, _^_, _≤_, _<_}
+use native.Mathlib.Nat.{add-zero, le-of-lt, lt-of-lt-of-le, lt-irrefl, mul-one}
+use native.Mathlib.Numerals.{add-one}
 use native.Mathlib.Omega.{arith}
-use lib.Dec.{T, leb, ltb, eqb, eqb→eq}
+use lib.Dec.{T, leb, ltb, eqb, eqb→eq, leb→le, ltb→lt}
 use lib.IntN.{ℤ}
-use lib.ListN.{length, getD}
+use lib.Count.{leadingZeros}
 use lib.Pow.{shl-lt, pow-mono}
 use lib.Ieee.{Float, nan, inf, fin, binary32, odd, fits, isNan, ofFields, ofBits, toBits, nanBits}
-use lib.Ieee.Bits.{ofBits-toBits, toBits-ofBits, toBits-lt, nanBits-is, nanBits-above}
+use lib.Ieee.Bits.{ofBits-toBits, toBits-ofBits, toBits-lt, nanBits-is, nanBits-above, is-true}
 use lib.Ieee.Exact.{HasValue, odd-sign as odd-value}
 use lib.Ieee.Fits.{and-l, and-r, odd-fits, cond-fits, nan-fits, inf-fits}
-use borrow.Author.Tests.{eqb-false, ne-eqb, lt-leb, le-leb, lt-ltb, le-ltb, ltb-true, ltb-false}
+use borrow.Author.Tests.{eqb-true, eqb-false, ne-eqb, lt-leb, le-leb, lt-ltb, le-ltb, ltb-true, ltb-false}
 use Rattle.fields.specs.Le.{u16At, u32At}
 use Rattle.half.specs.Half.{sign, exponent, fraction, fieldsValue, halfValue, isNanHalf, quiet, widenedNan, widened, storedValue}
-use Rattle.half.specs.Inner.{isTimes, isTable}
+use Rattle.half.specs.Inner.{isNormal, allBelow, areNormal}
 use Rattle.half.proofs.Odd.{odd-shift}
-use Rattle.half.proofs.Table.{every, entry}
 
 -- ---- the value of a half
 
@@ -169,6 +170,11 @@ widened-subnormal h H e =
     ap₂ (λ (a b : ℕ). a + b) (sym (sign-bit (sign h) (omega arith))) (unsigned (fraction h) (omega arith))
     ∙ sym (low h e ∙ odd-sign 11 (eqb (sign h) 1) (fraction h) 0 24)
 
+-- a zero is its sign alone
+pub widened-zero : (h : ℕ) → h < 65536 → exponent h ≡ 0 → fraction h ≡ 0 → sign h * 2 ^ 31 ≡ widened h
+unfolding widened
+widened-zero h H e f = sym (add-zero _) ∙ ap (λ (t : ℕ). sign h * 2 ^ 31 + widened t) (sym f) ∙ widened-subnormal h H e
+
 pub widened-infinity : (h : ℕ) → h < 65536 → exponent h ≡ 31 → fraction h ≡ 0 → sign h * 2 ^ 31 + 255 * 2 ^ 23 ≡ widened h
 unfolding widened
 widened-infinity h H e f = simp (e, f, sign-bit (sign h) (omega arith))
@@ -206,40 +212,40 @@ widened-lt h H = go (isNanHalf h) refl
     go true e = let q = quiet-range (fraction h) (omega arith) in rw (nan-is h e) (omega arith)
     go false e = rw (plain h e) (toBits-lt binary32 (halfValue h) (half-fits h))
 
--- ---- the table
+-- ---- a subnormal half, from the position of its highest one
 
-times : (k : ℕ) → k < 1024 → isTimes k (widened k)
-times k l =
-    let g : sign k ≡ 0 = omega arith in
-    let x : exponent k ≡ 0 = omega arith in
-    let t : fraction k ≡ k = omega arith in
-    rw (exact k (simp x)) (subst₂ (λ (a b : ℕ). HasValue (halfValue k) (eqb a 1) b (2 ^ 24)) g t (subnormal-value k x))
+-- what passes at all numbers below n passes at one
+all-at : (f : ℕ → Bool) (n k : ℕ) → T (allBelow f n) → k < n → T (f k)
+all-at f zero k t l = absurd (omega arith)
+all-at f (suc n) k t l = go (all-at f n k (and-r (f n) (allBelow f n) t)) (eqb k n) refl
+  where
+    go : (k < n → T (f k)) → (b : Bool) → eqb k n ≡ b → T (f k)
+    go rest true e = subst (λ (i : ℕ). T (f i)) (sym (eqb-true k n e)) (and-l (f n) (allBelow f n) t)
+    go rest false e = let d = eqb-false k n e in rest (omega arith)
 
--- without a sign the highest bit is 0: with it the pattern has 32 bits
-pub unsigned-lt : (k : ℕ) → k < 1024 → widened k < 2 ^ 31
-unsigned-lt k l =
-    let g : sign (k + 32768) ≡ 1 = omega arith in
-    let t : fraction (k + 32768) ≡ k = omega arith in
-    let q : (k + 32768) / 1024 ≡ 32 = omega arith in
-    let e = widened-subnormal (k + 32768) (omega arith) (rw q refl) in
-    let f = ap₂ (λ (a b : ℕ). a * 2 ^ 31 + widened b) (sym g) (sym t) ∙ e in
-    omega (arith, f, widened-lt (k + 32768) (omega arith))
+-- the pattern that is worked out of a fraction with its highest one at position j
+abbrev pub workedOut : ℕ → ℕ → ℕ
+workedOut j t = (j + 103) * 2 ^ 23 + t * 2 ^ (23 - j) % 2 ^ 32 % 2 ^ 23
 
--- the test of the entry x at the place k
-abbrev pub right : ℕ → ℕ → Bool
-right k x = eqb x (widened k)
+-- the highest one of t has z zeros above it and is one of ten, and so its half's pattern is worked out
+abbrev right : ℕ → ℕ → Bool
+right z t = leb 22 z && (leb z 31 && eqb (workedOut (31 - z) t) (widened t))
 
--- one test over all the entries
-unfoldable pub tested : List ℕ → Bool
-unfolding widened
-tested xs = eqb (length xs) 1024 && every right 0 xs
+-- one test over all the fractions but 0, which antt computes
+all-right : T (allBelow (λ k. right (leadingZeros 32 (suc k)) (suc k)) 1023)
+unfolding widened leadingZeros
+all-right = tt
 
-pub table : (xs : List ℕ) → T (tested xs) → isTable xs
-unfolding isTable tested
-table xs t =
-    let n = eqb→eq (length xs) 1024 (and-l (eqb (length xs) 1024) (every right 0 xs) t) in
-    let r = entry right xs (and-r (eqb (length xs) 1024) (every right 0 xs) t) in
-    (n, λ k h. (let e = eqb→eq (getD xs k 0) (widened k) (r k (omega arith)) in (e, subst (isTimes k) (sym e) (times k h))))
+pub worked-out : (t : ℕ) → 0 < t → t < 1024 → let z = leadingZeros 32 t in (22 ≤ z) × (z ≤ 31) × (workedOut (31 - z) t ≡ widened t)
+worked-out zero L U = absurd (lt-irrefl 0 L)
+worked-out (suc k) L U =
+    let z = leadingZeros 32 (suc k) in
+    let a = leb 22 z in
+    let b = leb z 31 in
+    let c = eqb (workedOut (31 - z) (suc k)) (widened (suc k)) in
+    let r = all-at (λ k. right (leadingZeros 32 (suc k)) (suc k)) 1023 k all-right (omega arith) in
+    let s = and-r a (b && c) r in
+    (leb→le 22 z (and-l a (b && c) r), leb→le z 31 (and-l b c s), eqb→eq _ _ (and-r b c s))
 
 -- ---- a stored value, by its width
 
@@ -250,3 +256,51 @@ stored-half width s at e = simp e
 pub stored-single : (width : ℕ) (s : List ℕ) (at : ℕ) → (width ≡ 2 → ⊥) → u32At s at ≡ storedValue s width at
 unfolding storedValue
 stored-single width s at n = simp (ne-eqb width 2 n)
+
+-- ---- normal halves
+
+pub normal-exponent : (h : ℕ) → isNormal h ≡ true → (0 < exponent h) × (exponent h < 31)
+normal-exponent h e =
+    let t = subst T (sym e) tt in
+    let a = ltb 0 (exponent h) in
+    let b = ltb (exponent h) 31 in
+    (ltb→lt 0 (exponent h) (and-l a b t), ltb→lt (exponent h) 31 (and-r a b t))
+
+-- by the number without its sign
+pub low-not-normal : (h : ℕ) → h % 32768 < 1024 → false ≡ isNormal h
+low-not-normal h l = sym (simp (le-ltb 0 (exponent h) (omega arith)))
+
+pub rest-normal : (h : ℕ) → 1024 ≤ h % 32768 → ltb (h % 32768) 31744 ≡ isNormal h
+rest-normal h l = go (ltb (h % 32768) 31744) refl
+  where
+    go : (b : Bool) → ltb (h % 32768) 31744 ≡ b → b ≡ isNormal h
+    go true d = let u = ltb-true (h % 32768) 31744 d in sym (simp (lt-ltb 0 (exponent h) (omega arith), lt-ltb (exponent h) 31 (omega arith)))
+    go false d = let u = ltb-false (h % 32768) 31744 d in sym (simp (lt-ltb 0 (exponent h) (omega arith), le-ltb (exponent h) 31 (omega arith)))
+
+-- all that is above the smallest one moved up in one
+pub widened-above : (h : ℕ) → h < 65536 → isNormal h ≡ true → sign h * 2 ^ 31 + 947912704 + (h % 32768 - 1024) * 2 ^ 13 ≡ widened h
+widened-above h H e =
+    let n = normal-exponent h e in
+    let moved : sign h * 2 ^ 31 + 947912704 + (h % 32768 - 1024) * 2 ^ 13 ≡ sign h * 2 ^ 31 + (exponent h + 112) * 2 ^ 23 + fraction h * 2 ^ 13 = omega (arith, n .0) in
+    moved ∙ widened-normal h H (n .0) (n .1)
+
+-- by the difference from the smallest one, modulo 32768
+pub above-normal : (h : ℕ) → (h + 31744) % 32768 < 30720 → (isNormal h ≡ true) × ((h + 31744) % 32768 ≡ h % 32768 - 1024)
+above-normal h l = (sym (rest-normal h (omega arith)) ∙ lt-ltb (h % 32768) 31744 (omega arith), omega arith)
+
+pub above-other : (h : ℕ) → 30720 ≤ (h + 31744) % 32768 → (exponent h ≡ 0 → ⊥) → exponent h ≡ 31
+above-other h l n = omega arith
+
+-- a run of them
+pub normal-none : (s : List ℕ) (at : ℕ) → true ≡ areNormal s at 0
+unfolding areNormal
+normal-none s at = refl
+
+pub normal-next : (s : List ℕ) (at k : ℕ) {a b : Bool} → b ≡ isNormal (u16At s (at + k * 2)) → a ≡ areNormal s at k → (b && a) ≡ areNormal s at (k + 1)
+unfolding areNormal
+normal-next s at k d e = rw (add-one k) (ap₂ _&&_ d e)
+
+-- each of them is one
+pub normal-at : (s : List ℕ) (at n k : ℕ) → areNormal s at n ≡ true → k < n → isNormal (u16At s (at + k * 2)) ≡ true
+unfolding areNormal
+normal-at s at n k e l = is-true _ (all-at (λ i. isNormal (u16At s (at + i * 2))) n k (subst T (sym e) tt) l)

@@ -1,3 +1,2 @@
 pub mod Odd
-pub mod Table
 pub mod Laws

@@ -2,7 +2,7 @@
 ghost use mathlib.Core.Path.{_≡_};
 ghost use mathlib.Core.Bool.{true};
 ghost use Prim.Native.Nat.{_-_, _≤_, _<_, min};
-ghost use Rattle.half.specs.Inner.{isTable, isWidth};
+ghost use Rattle.half.specs.Inner.{isWidth};
 ghost use Rattle.cursor.specs.Inner.{pieceOf};
 ghost use Rattle.slots.specs.Slots.{slotsOf};
 ghost use Rattle.slots.specs.Inner.{Room};
@@ -215,7 +215,6 @@ fn next_stand(s: &[u8], c: Coding, cursor: Cursor, t: Run, limit: usize) -> Next
 
 // The records from here on, piece after piece, into the slots from the first one on, no further than `limit`.
 fn hand_pieces(
-    table: &[u32],
     s: &[u8],
     c: Coding,
     cursor: Cursor,
@@ -227,7 +226,7 @@ fn hand_pieces(
     level: &mut [u32],
     value: &mut [u32],
 ) -> Stand
-    requires { ⌜ (c .width ≡ 2 → isTable (now table)) × isWidth (c .width) × Room limit (slotsOf (now x) (now y) (now z) (now level) (now value)) ⌝ }
+    requires { ⌜ isWidth (c .width) × Room limit (slotsOf (now x) (now y) (now z) (now level) (now value)) ⌝ }
     ensures { λ r. ⌜ HandedOn (handOn (now (s .entry)) c limit cursor inside) (slotsOf (now (x .entry)) (now (y .entry)) (now (z .entry)) (now (level .entry)) (now (value .entry))) (slotsOf (now (x .exit)) (now (y .exit)) (now (z .exit)) (now (level .exit)) (now (value .exit))) r ⌝ }
 {
     let mut at = Stand {
@@ -237,7 +236,7 @@ fn hand_pieces(
     };
     loop {
         let w = at.inside;
-        let t = records::fill_piece(table, s, c, w, at.filled, limit, x, y, z, level, value);
+        let t = records::fill_piece(s, c, w, at.filled, limit, x, y, z, level, value);
         let before = at.cursor;
         match next_stand(s, c, before, t, limit) {
             NextStand::At(next) => {
@@ -255,7 +254,7 @@ fn hand_pieces(
     }
 }
 
-// The same; the table of the halves is made once, and only where the values are halves.
+// The same. The two widths become constants here, so that the compiler carries none of them through the loops.
 pub fn hand_on(
     s: &[u8],
     c: Coding,
@@ -271,11 +270,13 @@ pub fn hand_on(
     requires { ⌜ isWidth (c .width) × Room limit (slotsOf (now x) (now y) (now z) (now level) (now value)) ⌝ }
     ensures { λ r. ⌜ HandedOn (handOn (now (s .entry)) c limit cursor inside) (slotsOf (now (x .entry)) (now (y .entry)) (now (z .entry)) (now (level .entry)) (now (value .entry))) (slotsOf (now (x .exit)) (now (y .exit)) (now (z .exit)) (now (level .exit)) (now (value .exit))) r ⌝ }
 {
+    let mut known = c;
     if c.width == 2 {
-        let table = half::subnormals();
-        return hand_pieces(&table, s, c, cursor, inside, limit, x, y, z, level, value);
+        known.width = 2;
+        return hand_pieces(s, known, cursor, inside, limit, x, y, z, level, value);
     }
-    hand_pieces(&[0], s, c, cursor, inside, limit, x, y, z, level, value)
+    known.width = 4;
+    hand_pieces(s, known, cursor, inside, limit, x, y, z, level, value)
 }
 
 // Where a walk stands behind so many records of the pieces from a cursor on: in the first piece that does not fit into one record less.

@@ -107,10 +107,10 @@ hand-keeps s c P step (suc j) (suc want) w h = go (hand-keeps s c P step j) (mas
         one-more false = omega arith
 
 module _ (s : List ℕ) (c : Coding) (j want : ℕ) (w : Inside) where
-  pub hand-readable : (table : List ℕ) (room : ℕ) → Readable table s c room w → Readable table s c room (handOut s c want w j .inside)
-  hand-readable table room h =
-      hand-keeps s c (Readable table s c room)
-      (λ v k l g. readable-on table s c room v (suc (v .from)) k (omega (arith, g .number)) g) j want w h
+  pub hand-readable : (room : ℕ) → Readable s c room w → Readable s c room (handOut s c want w j .inside)
+  hand-readable room h =
+      hand-keeps s c (Readable s c room)
+      (λ v k l g. readable-on s c room v (suc (v .from)) k (omega (arith, g .number)) g) j want w h
 
   pub hand-masks : {n : ℕ} → Masks s n w → Masks s n (handOut s c want w j .inside)
   hand-masks {n} h = hand-keeps s c (Masks s n) (λ v k l g. record { value = g .value; child = g .child; places = g .places }) j want w h

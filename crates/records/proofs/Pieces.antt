@@ -8,7 +8,7 @@ use lib.ListN.{length}
 use borrow.Author.Tests.{lt-leb, le-leb, leb-true}
 use Rattle.fields.specs.Parse.{when}
 use Rattle.forms.specs.declared.Coding.{Coding}
-use Rattle.half.specs.Inner.{isTable, isWidth}
+use Rattle.half.specs.Inner.{isWidth}
 use Rattle.coordinates.specs.Coordinates.{aligned}
 use Rattle.coordinates.proofs.Axis.{and-both}
 use Rattle.tree.specs.Active.{sideOf, edgeOf}
@@ -74,8 +74,8 @@ module _ (s : List ℕ) (c : Coding) (want slot : ℕ) (w : Inside) (t : Slots) 
 
 -- what its reader asks
 module _ (s : List ℕ) (w : Inside) (h : IsInside s w) where
-  pub piece-readable : (table : List ℕ) (c : Coding) {r : ℕ} → (c .width ≡ 2 → isTable table) → isWidth (c .width) → r ≡ length s - w .start → Readable table s c (r / c .width) w
-  piece-readable table c a b e = record { subnormals = a; width = b; values = rw e; multiple = h .multiple; number = h .number }
+  pub piece-readable : (c : Coding) {r : ℕ} → isWidth (c .width) → r ≡ length s - w .start → Readable s c (r / c .width) w
+  piece-readable c b e = record { width = b; values = rw e; multiple = h .multiple; number = h .number }
 
   pub piece-masks : {n : ℕ} → n ≡ maskBytes (w .level) → Masks s n w
   piece-masks {n} e =

@@ -2,7 +2,7 @@
 ghost use mathlib.Core.Path.{_≡_};
 ghost use Prim.Native.Nat.{_-_, _*_, _%_, _<_};
 ghost use Rattle.coordinates.specs.Inner.{Divides};
-ghost use Rattle.half.specs.Inner.{isTable, isWidth};
+ghost use Rattle.half.specs.Inner.{isWidth};
 ghost use Rattle.tree.specs.Active.{sideOf, edgeOf};
 ghost use Rattle.slots.specs.Slots.{slotsOf};
 ghost use Rattle.slots.specs.Inner.{Room, Readable, maskBytes};
@@ -58,7 +58,6 @@ fn is_full(b: Bits, room: usize, slot: usize, limit: usize) -> bool
 // The records of a word's places into the slots from `slot` on, no further than `limit`. Full words stand apart, of which a dense cloud has many, and
 // so do leaves, which have most of the places.
 fn fill_word(
-    table: &[u32],
     s: &[u8],
     c: Coding,
     room: usize,
@@ -71,12 +70,12 @@ fn fill_word(
     level: &mut [u32],
     value: &mut [u32],
 ) -> Run
-    requires { ⌜ Readable (now table) (now s) c room (word .inside) × InWord (now s) word × Room limit (slotsOf (now x) (now y) (now z) (now level) (now value)) ⌝ }
+    requires { ⌜ Readable (now s) c room (word .inside) × InWord (now s) word × Room limit (slotsOf (now x) (now y) (now z) (now level) (now value)) ⌝ }
     ensures { λ r. ⌜ Fills slot (handWord (now (s .entry)) c (limit - slot) word) (slotsOf (now (x .entry)) (now (y .entry)) (now (z .entry)) (now (level .entry)) (now (value .entry))) (slotsOf (now (x .exit)) (now (y .exit)) (now (z .exit)) (now (level .exit)) (now (value .exit))) r ⌝ }
 {
     if is_full(word, room, slot, limit) {
         let w = word.inside;
-        slots::fill_full(table, s, c, room, w, slot, x, y, z, level, value);
+        slots::fill_full(s, c, room, w, slot, x, y, z, level, value);
         let mut inside = w;
         inside.from = inside.from + 64;
         inside.number = inside.number + 64;
@@ -87,9 +86,9 @@ fn fill_word(
         };
     }
     if is_leaf(word, room) {
-        return bits::fill_ones(table, s, c, room, word, slot, limit, x, y, z, level, value);
+        return bits::fill_ones(s, c, room, word, slot, limit, x, y, z, level, value);
     }
-    bits::fill_any(table, s, c, room, word, slot, limit, x, y, z, level, value)
+    bits::fill_any(s, c, room, word, slot, limit, x, y, z, level, value)
 }
 
 // The word that the next place is in, from that place on; the masks have n bytes.
@@ -110,7 +109,6 @@ fn word_at(s: &[u8], n: usize, w: Inside) -> Bits
 
 // The records of the places that are left of a piece with masks of n bytes, word by word.
 fn fill_words(
-    table: &[u32],
     s: &[u8],
     c: Coding,
     room: usize,
@@ -124,7 +122,7 @@ fn fill_words(
     level: &mut [u32],
     value: &mut [u32],
 ) -> Run
-    requires { ⌜ Readable (now table) (now s) c room w × Masks (now s) n w × (w .from < 8 * n) × Room limit (slotsOf (now x) (now y) (now z) (now level) (now value)) ⌝ }
+    requires { ⌜ Readable (now s) c room w × Masks (now s) n w × (w .from < 8 * n) × Room limit (slotsOf (now x) (now y) (now z) (now level) (now value)) ⌝ }
     ensures { λ r. ⌜ Fills slot (handOut (now (s .entry)) c (limit - slot) w (8 * n - w .from)) (slotsOf (now (x .entry)) (now (y .entry)) (now (z .entry)) (now (level .entry)) (now (value .entry))) (slotsOf (now (x .exit)) (now (y .exit)) (now (z .exit)) (now (level .exit)) (now (value .exit))) r ⌝ }
 {
     let mut t = Run {
@@ -139,7 +137,6 @@ fn fill_words(
         }
         let inside = t.inside;
         t = fill_word(
-            table,
             s,
             c,
             room,
@@ -198,7 +195,6 @@ pub fn is_inside(s: &[u8], n: usize, w: Inside) -> bool
 // The records of the places that are left of a piece into the slots from `slot` on, no further than `limit`. Words that are no walk's in a piece
 // of this file are not read by: nothing is handed out, and the answer says that something is not in the file.
 pub fn fill_piece(
-    table: &[u32],
     s: &[u8],
     c: Coding,
     w: Inside,
@@ -210,7 +206,7 @@ pub fn fill_piece(
     level: &mut [u32],
     value: &mut [u32],
 ) -> Run
-    requires { ⌜ (c .width ≡ 2 → isTable (now table)) × isWidth (c .width) × Room limit (slotsOf (now x) (now y) (now z) (now level) (now value)) ⌝ }
+    requires { ⌜ isWidth (c .width) × Room limit (slotsOf (now x) (now y) (now z) (now level) (now value)) ⌝ }
     ensures { λ r. ⌜ Fills slot (handPiece (now (s .entry)) c (limit - slot) w) (slotsOf (now (x .entry)) (now (y .entry)) (now (z .entry)) (now (level .entry)) (now (value .entry))) (slotsOf (now (x .exit)) (now (y .exit)) (now (z .exit)) (now (level .exit)) (now (value .exit))) r ⌝ }
 {
     let n = slots::mask_bytes(w.level);
@@ -229,5 +225,5 @@ pub fn fill_piece(
         };
     }
     let room = fields::remaining(s, w.start) / c.width;
-    fill_words(table, s, c, room, n, w, slot, limit, x, y, z, level, value)
+    fill_words(s, c, room, n, w, slot, limit, x, y, z, level, value)
 }

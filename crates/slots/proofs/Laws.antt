@@ -80,5 +80,5 @@ in-room n start width k h l =
 
 -- a reader goes on
 pub readable-on :
-    (table s : List ℕ) (c : Coding) (room : ℕ) (w : Inside) (p k : ℕ) → k ≤ p → Readable table s c room w → Readable table s c room (standing w p k)
-readable-on table s c room w p k l h = record { subnormals = h .subnormals; width = h .width; values = h .values; multiple = h .multiple; number = l }
+    (s : List ℕ) (c : Coding) (room : ℕ) (w : Inside) (p k : ℕ) → k ≤ p → Readable s c room w → Readable s c room (standing w p k)
+readable-on s c room w p k l h = record { width = h .width; values = h .values; multiple = h .multiple; number = l }

@@ -1,16 +1,19 @@
 -- A run: slots filled one after the other, slice by slice, have the records of as many places.
 use mathlib.Core.Path.{_≡_, refl, ap, _∙_}
 use mathlib.Core.List.{List, [], _∷_}
-use Prim.Native.Nat.{ℕ, zero, suc, _+_}
+use Prim.Native.Nat.{ℕ, zero, suc, _+_, _*_, _≤_}
 use native.Mathlib.Numerals.{add-one}
 use native.Mathlib.Omega.{arith}
 use lib.ListN.{length, length-append, set}
+use Rattle.fields.specs.Le.{u16At}
+use Rattle.half.specs.Half.{widened}
+use Rattle.half.proofs.Laws.{stored-half}
 use Rattle.forms.specs.declared.Coding.{Coding}
 use Rattle.coordinates.specs.declared.GlobalCoord.{GlobalCoord}
 use Rattle.slots.specs.Slots.{Slots, put, slotsOf, laidFrom}
-use Rattle.slots.specs.Inner.{recordOf, cornerAt, valueAt, runOf, ranged, axisOf}
+use Rattle.slots.specs.Inner.{Readable, recordOf, cornerAt, valueAt, runOf, ranged, axisOf}
 use Rattle.slots.specs.declared.Inside.{Inside}
-use Rattle.slots.proofs.Laws.{laid-append}
+use Rattle.slots.proofs.Laws.{in-room, laid-append}
 
 -- an axis that is neither x nor y
 pub axis-last : (o : GlobalCoord) (n : ℕ) → (n ≡ 0 → ⊥) → (n ≡ 1 → ⊥) → o .2 ≡ axisOf o n
@@ -46,3 +49,16 @@ module _ (s : List ℕ) (c : Coding) (w : Inside) where
     unfolding runOf laidFrom ranged
     laid-ranged zero = refl
     laid-ranged (suc n) = laid-run n ∙ ap (λ (u : Slots). put u (i + n) (recordOf (cornerAt w n) (w .level) (valueAt s c w n))) (laid-ranged n)
+
+  -- values of two bytes are halves, and as many as there is room for lie in the file
+  module _ (e : c .width ≡ 2) where
+    pub halves-are : (λ (k : ℕ). widened (u16At s (w .start + w .number * 2 + k * 2))) ≡ valueAt s c w
+    unfolding valueAt
+    halves-are q k =
+        let d : w .start + w .number * 2 + k * 2 ≡ w .start + (w .number + k) * c .width = rw e (omega arith) in
+        (ap (λ (n : ℕ). widened (u16At s n)) d ∙ stored-half (c .width) s (w .start + (w .number + k) * c .width) e) q
+
+    pub halves-there : (room : ℕ) → Readable s c room w → w .number + 64 ≤ room → w .start + w .number * 2 + 128 ≤ length s
+    halves-there room h l =
+        let r = in-room (length s) (w .start) (c .width) (w .number + 63) (h .width) (omega (arith, h .values)) in
+        omega (arith, rw e at r)

@@ -7,7 +7,7 @@ use Prim.Native.Nat.{ℕ, zero, suc, _+_, _-_, _*_, _/_, _≤_}
 use lib.ListN.{length, set}
 use lib.IntN.{ℤ}
 use Rattle.forms.specs.declared.Coding.{Coding}
-use Rattle.half.specs.Inner.{isTable, isWidth}
+use Rattle.half.specs.Inner.{isWidth}
 use Rattle.half.specs.Half.{storedValue}
 use Rattle.coordinates.specs.Coordinates.{index, globalOf, aligned, places}
 use Rattle.coordinates.specs.declared.GlobalCoord.{GlobalCoord}
@@ -47,10 +47,9 @@ standing w p k = record {
   number = k;
 }
 
--- What a reader of a piece's values asks: the table where the values are halves, a width of 2 or 4, how many values the file has room for, and an
--- origin that is a multiple of the piece's span; and no more stored places are passed than places.
-pub record Readable (table s : List ℕ) (c : Coding) (room : ℕ) (w : Inside) : Type 0 where
-  pub subnormals : c .width ≡ 2 → isTable table
+-- What a reader of a piece's values asks: a width of 2 or 4, how many values the file has room for, and an origin that is a multiple of the piece's
+-- span; and no more stored places are passed than places.
+pub record Readable (s : List ℕ) (c : Coding) (room : ℕ) (w : Inside) : Type 0 where
   pub width : isWidth (c .width)
   pub values : room ≡ roomOf s c (w .start)
   pub multiple : aligned (edgeOf (w .level) * sideOf (w .level)) (w .origin) ≡ true

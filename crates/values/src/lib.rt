@@ -4,7 +4,7 @@
 ghost use mathlib.Core.Path.{_≡_};
 ghost use Prim.Native.Nat.{_+_, _*_, _<_};
 ghost use lib.ListN.{length};
-ghost use Rattle.half.specs.Inner.{isTable, isWidth};
+ghost use Rattle.half.specs.Inner.{isWidth};
 ghost use Rattle.half.specs.Half.{storedValue};
 ghost use Rattle.forms.specs.Inner.{selectionHeld};
 ghost use Rattle.runs.specs.Runs.{numberOf};
@@ -37,24 +37,16 @@ fn inactive_value(s: &[u8], n: usize, v: Inactives, p: Index) -> u32
     v.first
 }
 
-// The stored value with the number k of a run that starts at a position. The callers have its number below the run's count.
+// The stored value with the number k of a run that starts at a position. The callers have its number below the run's count. The widths are constants
+// here, so that a loop over k has no product left.
 pub fn stored_value(s: &[u8], c: Coding, start: usize, k: usize) -> u32
     requires { ⌜ isWidth (c .width) × InRun (now s) c start k ⌝ }
     ensures { λ r. ⌜ r ≡ storedValue (now (s .entry)) (c .width) (start + k * c .width) ⌝ }
 {
-    half::value_at(s, start + k * c.width, c.width)
-}
-
-// The same with the table of the halves lent, which is looked at for values of 2 bytes only. The widths are constants here, so that a loop over
-// k has no product left.
-pub fn stored_with(table: &[u32], s: &[u8], c: Coding, start: usize, k: usize) -> u32
-    requires { ⌜ (c .width ≡ 2 → isTable (now table)) × isWidth (c .width) × InRun (now s) c start k ⌝ }
-    ensures { λ r. ⌜ r ≡ storedValue (now (s .entry)) (c .width) (start + k * c .width) ⌝ }
-{
     if c.width == 2 {
-        return half::value_with(table, s, start + k * 2, 2);
+        return half::value_at(s, start + k * 2, 2);
     }
-    half::value_with(table, s, start + k * 4, 4)
+    half::value_at(s, start + k * 4, 4)
 }
 
 // The value of one place. The callers of this function and of those below have the values from `runs::read_values`.
@@ -79,10 +71,9 @@ pub fn place_value(
     inactive_value(s, n, inactives, p)
 }
 
-// The value of place p, where k is the number of the next stored value, and the next such number. With the numbers handed on and the table of
-// the halves lent, a run over the places counts no mask and copies no table.
+// The value of place p, where k is the number of the next stored value, and the next such number. With the numbers handed on, a run over the places
+// counts no mask.
 fn place_numbered(
-    table: &[u32],
     s: &[u8],
     c: Coding,
     n: usize,
@@ -92,12 +83,12 @@ fn place_numbered(
     p: Index,
     k: usize,
 ) -> Placed
-    requires { ⌜ (c .width ≡ 2 → isTable (now table)) × Held (now s) c n child value v × (p .0 < 8 * n) × (k ≡ numberOf (now s) (v .stored) child value (p .0)) ⌝ }
+    requires { ⌜ Held (now s) c n child value v × (p .0 < 8 * n) × (k ≡ numberOf (now s) (v .stored) child value (p .0)) ⌝ }
     ensures { λ r. ⌜ (r .value ≡ placeValue (now (s .entry)) c child value v (p .0)) × (r .next ≡ numberOf (now (s .entry)) (v .stored) child value (p .0 + 1)) ⌝ }
 {
     let stored = v.stored;
     if runs::is_stored(s, stored, n, child, value, p) {
-        let x = stored_with(table, s, c, v.start, k);
+        let x = stored_value(s, c, v.start, k);
         return Placed {
             value: x,
             next: k + 1,
@@ -110,30 +101,17 @@ fn place_numbered(
     }
 }
 
-// A leaf's 512 values, place 0 first, into 512 slots, with the table of the halves lent.
-fn fill_places(table: &[u32], s: &[u8], c: Coding, value: usize, v: Values, slots: &mut [u32])
-    requires { ⌜ (c .width ≡ 2 → isTable (now table)) × Held (now s) c 64 value value v × (length (now slots) ≡ 512) ⌝ }
+// A leaf's 512 values, place 0 first, into 512 slots.
+pub fn fill_leaf(s: &[u8], c: Coding, value: usize, v: Values, slots: &mut [u32])
+    requires { ⌜ Held (now s) c 64 value value v × (length (now slots) ≡ 512) ⌝ }
     ensures { λ r. ⌜ now (slots .exit) ≡ leafValues (now (s .entry)) c value v ⌝ }
 {
     let mut k: usize = 0;
     let mut p: u32 = 0;
     while p < 512 {
-        let placed = place_numbered(table, s, c, 64, value, value, v, Index(p), k);
+        let placed = place_numbered(s, c, 64, value, value, v, Index(p), k);
         slots[p as usize] = placed.value;
         k = placed.next;
         p = p + 1;
     }
-}
-
-// The same; the table is made once, and only where the values are halves.
-pub fn fill_leaf(s: &[u8], c: Coding, value: usize, v: Values, slots: &mut [u32])
-    requires { ⌜ Held (now s) c 64 value value v × (length (now slots) ≡ 512) ⌝ }
-    ensures { λ r. ⌜ now (slots .exit) ≡ leafValues (now (s .entry)) c value v ⌝ }
-{
-    if c.width == 2 {
-        let table = half::subnormals();
-        fill_places(&table, s, c, value, v, slots);
-        return;
-    }
-    fill_places(&[0], s, c, value, v, slots);
 }

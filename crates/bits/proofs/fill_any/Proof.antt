@@ -16,19 +16,19 @@ use Rattle.bits.proofs.fill_any.Statement.{statement}
 use Rattle.bits.proofs.fill_any.Tie as tie
 
 abbrev Inv-loop : tie.InvT-loop
-Inv-loop table s c room slot limit x₀ y₀ z₀ level₀ value₀ b₀ at₀ whole₀ x y z level value b at whole =
-    Readable table s c room (b .inside) × InWord s b × Room limit (slotsOf x y z level value) × Same (slotsOf x y z level value) (slotsOf x₀ y₀ z₀ level₀ value₀) × (whole ≡ true)
+Inv-loop s c room slot limit x₀ y₀ z₀ level₀ value₀ b₀ at₀ whole₀ x y z level value b at whole =
+    Readable s c room (b .inside) × InWord s b × Room limit (slotsOf x y z level value) × Same (slotsOf x y z level value) (slotsOf x₀ y₀ z₀ level₀ value₀) × (whole ≡ true)
     × Going at (handWord s c (limit - at) b) (slotsOf x y z level value) at₀ (handWord s c (limit - at₀) b₀) (slotsOf x₀ y₀ z₀ level₀ value₀)
 
 abbrev μ-loop : tie.MeasureT-loop
-μ-loop table s c room slot limit x₀ y₀ z₀ level₀ value₀ b₀ at₀ whole₀ x y z level value b at whole = limit - at
+μ-loop s c room slot limit x₀ y₀ z₀ level₀ value₀ b₀ at₀ whole₀ x y z level value b at whole = limit - at
 
 -- back from the next active place to its turn of the loop, and from there to the function's start
 abbrev turn : tie.After-to-active Inv-loop μ-loop → tie.At-loop Inv-loop μ-loop
 turn c = c .before .before .before .before
 
 abbrev start : tie.At-loop Inv-loop μ-loop → tie.Start Inv-loop μ-loop
-start c = c .before .before .before .before .before
+start c = c .before .before .before .before
 
 -- back from where its record's corner is known to that place, from where the record is put to there, and from behind that
 abbrev reached : tie.After-corner Inv-loop μ-loop → tie.After-to-active Inv-loop μ-loop
@@ -41,18 +41,17 @@ abbrev written : tie.After-slice-known4 Inv-loop μ-loop → tie.After-put-recor
 written c = c .before .before .before .before .before .before .before
 
 -- what is known once the next active place is reached
-there : (c : tie.After-to-active Inv-loop μ-loop) → let a = start (turn c) .args in Active (a .table .now) (a .s .now) (a .c) (a .room) (c .to-active .result)
+there : (c : tie.After-to-active Inv-loop μ-loop) → let a = start (turn c) .args in Active (a .s .now) (a .c) (a .room) (c .to-active .result)
 there c =
     let l = turn c .loop in
-    active-there _ _ _ _ (l .b) _ (l .inv .0) (l .inv .1) (c .before .if1 .left) (c .to-active .ensures)
+    active-there _ _ _ (l .b) _ (l .inv .0) (l .inv .1) (c .before .if1 .left) (c .to-active .ensures)
 
-stored-with-requires : tie.Need-stored-with-requires Inv-loop μ-loop
-stored-with-requires c κs =
+stored-value-requires : tie.Need-stored-value-requires Inv-loop μ-loop
+stored-value-requires c κs =
     let t = c .before .before .before in
     let a = there t in
     let w = t .to-active .result .inside in
     let m = masked (w .level) in (
-      a .readable .subnormals,
       a .readable .width,
       (
         omega (arith, a .readable .number, a .word .places, a .some-left, m .small, m .bits),
@@ -69,14 +68,14 @@ loop-again c =
     let a = there t in
     let r = t .to-active in
     let w = u .put-record .ensures in (
-      rw (c .past-active .ensures) (readable-past _ _ _ _ (r .result) 1 (a .readable)),
+      rw (c .past-active .ensures) (readable-past _ _ _ (r .result) 1 (a .readable)),
       rw (c .past-active .ensures) (word-past _ (r .result) (a .word) 1 _ (a .some-left)),
       put-room _ _ _ _ w (l .inv .2),
       put-same _ _ _ _ w (l .inv .3),
       l .inv .4,
-      goes (l .inv .5) (turn-one _ _ _ _ (l .b) (r .result) (l .inv .0) (l .inv .1) (t .before .if1 .left) (r .ensures) _ (l .at)
+      goes (l .inv .5) (turn-one _ _ _ (l .b) (r .result) (l .inv .0) (l .inv .1) (t .before .if1 .left) (r .ensures) _ (l .at)
           (t .before .before .before .loop-test .taken) (o .before .before .if2 .left)
-          (record-is _ _ (r .result .inside) (o .corner .ensures) (o .before .stored-with .ensures))
+          (record-is _ _ (r .result .inside) (o .corner .ensures) (o .before .stored-value .ensures))
           (c .past-active .ensures)) w,
     )
 
@@ -87,7 +86,7 @@ returns c =
     (λ t. ends (l .inv .5) (hand-full _ _ _ _ _ _ (omega (arith, t .0 .left))) (run-is (ap (λ (b : Bits). b .inside) (t .1)) (t .2 ∙ l .inv .4)))
     (λ t. ⊎-elim
     (λ t. ends (l .inv .5) (hand-none _ (l .b) (l .inv .1) _ _ (omega (arith, t .0 .taken)) (t .2 .taken)) (run-is (ap (λ (b : Bits). b .inside) (t .4) ∙ t .3 .ensures) (t .5 ∙ l .inv .4)))
-    (λ t. ends (l .inv .5) (turn-cut _ _ _ _ (l .b) _ (l .inv .0) (l .inv .1) (t .2 .left) (t .3 .ensures) _ _ (t .0 .taken) (t .6 .taken)) (run-is (ap (λ (b : Bits). b .inside) (t .7)) (t .8)))
+    (λ t. ends (l .inv .5) (turn-cut _ _ _ (l .b) _ (l .inv .0) (l .inv .1) (t .2 .left) (t .3 .ensures) _ _ (t .0 .taken) (t .6 .taken)) (run-is (ap (λ (b : Bits). b .inside) (t .7)) (t .8)))
     t)
     (c .before .loop-test .came)
 
@@ -97,13 +96,13 @@ fill-any-spec =
     (tie.spec
     Inv-loop
     μ-loop
-    (λ c. let p = c .before .before .before .before .pre in (p .0, p .1, p .2, same _, refl, starts _ _ _))
-    (λ c κs. let l = c .before .before .before .loop in (omega arith, sums-fit _ _ _ _ (l .b) (l .inv .0) (l .inv .1)))
-    (λ c κs. let l = c .before .before .before .loop in (sums-fit _ _ _ _ (l .b) (l .inv .0) (l .inv .1), l .inv .1 .value-bits .below, c .if1 .left))
-    stored-with-requires
+    (λ c. let p = c .before .before .before .pre in (p .0, p .1, p .2, same _, refl, starts _ _ _))
+    (λ c κs. let l = c .before .before .before .loop in (omega arith, sums-fit _ _ _ (l .b) (l .inv .0) (l .inv .1)))
+    (λ c κs. let l = c .before .before .before .loop in (sums-fit _ _ _ (l .b) (l .inv .0) (l .inv .1), l .inv .1 .value-bits .below, c .if1 .left))
+    stored-value-requires
     (λ c κs. let a = there (c .before .before .before .before) in (omega (arith, a .word .places, a .some-left), a .readable .multiple))
     (λ c κs. let t = reached (c .before .before .before .before .before) in room-less _ (omega arith) (turn t .loop .inv .2))
-    (λ c κs. let a = there (reached (cornered (written c))) in (sums-fit _ _ _ _ _ (a .readable) (a .word), a .some-left))
+    (λ c κs. let a = there (reached (cornered (written c))) in (sums-fit _ _ _ _ (a .readable) (a .word), a .some-left))
     (λ c. let t = reached (cornered (written (c .before))) in omega (arith, t .before .before .before .loop-test .taken, start (turn t) .fits .limit))
     (λ c. let t = reached (cornered (written (c .before))) in omega (arith, t .before .before .before .loop-test .taken))
     loop-again

@@ -17,21 +17,21 @@ use Rattle.bits.proofs.fill_ones.Statement.{statement}
 use Rattle.bits.proofs.fill_ones.Tie as tie
 
 abbrev Inv-loop : tie.InvT-loop
-Inv-loop table s c room word slot limit x₀ y₀ z₀ level₀ value₀ w ones₀ p₀ i₀ x y z level value ones p i =
+Inv-loop s c room word slot limit x₀ y₀ z₀ level₀ value₀ w ones₀ p₀ i₀ x y z level value ones p i =
     (p ≤ word .left) × (slot ≤ i) × (i - slot ≤ p) × (ones ≡ onesPast (word .ones) p)
     × Room limit (slotsOf x y z level value) × Same (slotsOf x y z level value) (slotsOf x₀ y₀ z₀ level₀ value₀)
     × Going i (handWord s c (limit - i) (past word p (numberIn (word .inside) p (i - slot)))) (slotsOf x y z level value)
     slot (handWord s c (limit - slot) word) (slotsOf x₀ y₀ z₀ level₀ value₀)
 
 abbrev μ-loop : tie.MeasureT-loop
-μ-loop table s c room word slot limit x₀ y₀ z₀ level₀ value₀ w ones₀ p₀ i₀ x y z level value ones p i = limit - i
+μ-loop s c room word slot limit x₀ y₀ z₀ level₀ value₀ w ones₀ p₀ i₀ x y z level value ones p i = limit - i
 
 abbrev start : tie.At-loop Inv-loop μ-loop → tie.Start Inv-loop μ-loop
-start c = c .before .before .before .before .before .before
+start c = c .before .before .before .before .before
 
 -- the word's places are a leaf's
 few-places : (c : tie.Start Inv-loop μ-loop) → c .args .word .inside .from + c .args .word .left ≤ 512
-few-places c = leaf-places _ _ _ _ _ (c .pre .0) (c .pre .1) (c .pre .2)
+few-places c = leaf-places _ _ _ _ (c .pre .0) (c .pre .1) (c .pre .2)
 
 -- the next one
 module _ (c : tie.Else1 Inv-loop μ-loop) where
@@ -59,7 +59,7 @@ module _ (c : tie.Else1 Inv-loop μ-loop) where
       ap (trailingZeros 64) (l .loop .inv .3) ∙ lowest-past (b .ones) p small some-set (lt-of-le-of-lt (shr-le (b .ones) p) small)
 
   inside : q < b .left
-  inside = let s = start l in omega (arith, reached, one-inside _ _ _ _ b (s .pre .0) (s .pre .1) (s .pre .2) p k (l .loop .inv .2) (l .loop .inv .0) some-set)
+  inside = let s = start l in omega (arith, reached, one-inside _ _ _ b (s .pre .0) (s .pre .1) (s .pre .2) p k (l .loop .inv .2) (l .loop .inv .0) some-set)
 
   on : p ≤ q
   on = omega (arith, reached)
@@ -82,15 +82,14 @@ returns c =
     let t = c .before in
     let l = t .before .before in
     let s = start l in
-    ends (l .loop .inv .6) (done _ _ _ _ (s .args .word) (s .pre .0) (s .pre .1) (s .pre .2) (l .loop .p) _ (l .loop .inv .2) (l .loop .inv .0) _ _ (t .before .loop-test .taken) (sym (l .loop .inv .3) ∙ t .if1 .taken)) (run-is (c .stand .ensures) refl)
+    ends (l .loop .inv .6) (done _ _ _ (s .args .word) (s .pre .0) (s .pre .1) (s .pre .2) (l .loop .p) _ (l .loop .inv .2) (l .loop .inv .0) _ _ (t .before .loop-test .taken) (sym (l .loop .inv .3) ∙ t .if1 .taken)) (run-is (c .stand .ensures) refl)
 
-stored-with-requires : tie.Need-stored-with-requires Inv-loop μ-loop
-stored-with-requires c κs =
+stored-value-requires : tie.Need-stored-value-requires Inv-loop μ-loop
+stored-value-requires c κs =
     let t = c .before in
     let s = start (l t) in
     let n = number-le (b t .inside) (q t) (k t) (omega (arith, on t, l t .loop .inv .2)) in
     let e = c .number-behind .ensures in (
-      s .pre .0 .subnormals,
       s .pre .0 .width,
       (omega (arith, e, n, inside t, few-places s, s .pre .0 .number), in-room _ _ _ _ (s .pre .0 .width) (omega (arith, e, n, inside t, s .pre .2 .values, s .pre .0 .values))),
     )
@@ -109,8 +108,8 @@ loop-again c =
       c .past-lowest .ensures ∙ ap (λ (x : ℕ). onesPast x (q t + 1)) (i .inv .3) ∙ past-on (b t .ones) (p t) (q t + 1) (omega (arith, on t)),
       put-room _ _ _ _ w (i .inv .4),
       put-same _ _ _ _ w (i .inv .5),
-      goes (i .inv .6) (one-more _ _ _ _ (b t) (s .pre .0) (s .pre .1) (s .pre .2) (p t) (k t) (i .inv .2) (i .inv .0) (some-set t) _ (i .i) (q t) _
-          (t .before .loop-test .taken) (reached t) (omega (arith, i .inv .1)) (o .corner .ensures) (o .before .before .before .number-behind .ensures) (o .before .before .stored-with .ensures)) w,
+      goes (i .inv .6) (one-more _ _ _ (b t) (s .pre .0) (s .pre .1) (s .pre .2) (p t) (k t) (i .inv .2) (i .inv .0) (some-set t) _ (i .i) (q t) _
+          (t .before .loop-test .taken) (reached t) (omega (arith, i .inv .1)) (o .corner .ensures) (o .before .before .before .number-behind .ensures) (o .before .before .stored-value .ensures)) w,
     )
 
 pub fill-ones-spec : {M : Type 1} → statement M
@@ -119,7 +118,7 @@ fill-ones-spec =
     (tie.spec
     Inv-loop
     μ-loop
-    (λ c. let s = c .before .before .before .before .before in
+    (λ c. let s = c .before .before .before .before in
     let z : s .args .slot - s .args .slot ≡ 0 = omega arith in
     (omega arith, omega arith, omega arith, omega arith, s .pre .3, same _, begins _ _ _ _ (s .args .word) _ z))
     (λ c. search needs)
@@ -128,9 +127,9 @@ fill-ones-spec =
     returns
     (λ c. search needs)
     (λ c κs. let s = start (l c) in (omega (arith, inside c, few-places s, s .pre .0 .number), omega (arith, on c, l c .loop .inv .2)))
-    stored-with-requires
+    stored-value-requires
     (λ c. let t = c .before .before .before in omega (arith, inside t, few-places (start (l t))))
-    (λ c κs. let t = c .before .before .before in let s = start (l t) in (omega (arith, inside t, few-places s), leaf-multiple _ _ _ _ _ (s .pre .0) (s .pre .1) (s .pre .2)))
+    (λ c κs. let t = c .before .before .before in let s = start (l t) in (omega (arith, inside t, few-places s), leaf-multiple _ _ _ _ (s .pre .0) (s .pre .1) (s .pre .2)))
     (λ c κs. let t = found (c .before .before .before .before .before) in room-less _ (omega (arith, t .before .loop-test .taken)) (l t .loop .inv .4))
     (λ c κs. let t = found (cornered (written c)) in (omega (arith, l t .loop .inv .3, div-mul-le-self (b t .ones) (2 ^ p t), ones-small _ _ (start (l t) .pre .1)), t .if1 .left))
     (λ c. let t = turned c in omega (arith, inside t, few-places (start (l t))))

@@ -12,8 +12,8 @@ value-at-spec =
     tie.close
     (tie.spec
     (λ c κs. search needs)
-    (λ c. c .u32-at .ensures ∙ stored-single _ _ _ (λ e. omega arith))
-    (λ c κs. search needs)
     (λ c. search needs)
     (λ c κs. search needs)
-    (λ c. c .widen .ensures ∙ ap widened (c .before .u16-at .ensures .0) ∙ stored-half _ _ _ (omega arith)))
+    (λ c. c .widen .ensures ∙ ap widened (c .before .u16-at .ensures .0) ∙ stored-half _ _ _ (omega (arith, c .before .before .if1 .taken)))
+    (λ c κs. search needs)
+    (λ c. c .u32-at .ensures ∙ stored-single _ _ _ (λ e. omega (arith, c .before .if1 .left, e))))

@@ -1,39 +1,57 @@
--- The table is one where the width is 2, and elsewhere none is asked for.
+-- Both calls have the coding that was given.
 use borrow.Author.Needs.{needs}
-use Rattle.place.proofs.Laws.{walks-same}
+use mathlib.Core.List.{List}
+use mathlib.Core.Path.{_≡_, sym, subst}
+use Prim.Native.Nat.{ℕ}
+use native.Mathlib.Omega.{arith}
+use Rattle.forms.specs.declared.Coding.{Coding}
+use Rattle.cursor.specs.declared.Cursor.{Cursor}
+use Rattle.slots.specs.declared.Inside.{Inside}
+use Rattle.slots.specs.Slots.{Slots}
+use Rattle.place.specs.declared.Stand.{Stand}
+use Rattle.place.specs.Inner.{handOn, HandedOn}
 use Rattle.place.proofs.hand_on.Statement.{statement}
 use Rattle.place.proofs.hand_on.Tie as tie
 
-abbrev walked : tie.After-slice-known4 → tie.After-hand-pieces
-walked c = c .before .before .before .before .before .before .before
+-- a coding with the width that it has is the same coding
+with-width :
+    (c : Coding) (n : ℕ) → n ≡ c .width → (s : List ℕ) (limit : ℕ) (x : Cursor) (w : Inside) {t t′ : Slots} {r : Stand} →
+    HandedOn (handOn s (record { version = c .version; flags = c .flags; width = n; background = c .background }) limit x w) t t′ r → HandedOn (handOn s c limit x w) t t′ r
+with-width c n e s limit x w {t} {t′} {r} h =
+    subst (λ (k : ℕ). HandedOn (handOn s (record { version = c .version; flags = c .flags; width = k; background = c .background }) limit x w) t t′ r) e h
 
-abbrev walked2 : tie.After-slice-known6 → tie.After-hand-pieces2
-walked2 c = c .before .before .before .before .before .before .before
+-- back from a call to where the width was tested, and from there to the function's start
+abbrev halves : tie.After-hand-pieces-arg5 → tie.Then1
+halves c = c .before .before .before .before .before
+
+abbrev floats : tie.After-hand-pieces-arg10 → tie.Else1
+floats c = c .before .before .before .before .before
+
+abbrev start : tie.Then1 → tie.Start
+start c = c .before .before .before .before .before
+
+abbrev start2 : tie.Else1 → tie.Start
+start2 c = c .before .before .before .before .before
+
+returns : tie.Need-returns
+returns c =
+    let f = c .before .before .before .before .before .before .before in
+    let t = halves (f .before) in
+    with-width (start t .args .c) 2 (sym (t .if1 .taken)) _ _ _ _ (f .hand-pieces .ensures)
+
+returns-2 : tie.Need-returns-2
+returns-2 c =
+    let f = c .before .before .before .before .before .before .before in
+    let t = floats (f .before) in
+    with-width (start2 t .args .c) 4 (omega (arith, t .if1 .left, start2 t .pre .0)) _ _ _ _ (f .hand-pieces2 .ensures)
 
 pub hand-on-spec : {M : Type 1} → statement M
 hand-on-spec =
     tie.close
     (tie.spec
     (λ c κs. search needs)
-    (λ c. search needs)
-    (λ c κs.
-    let t = c .before .before .before .before .before .before in
-    let p = t .before .before .before .before .before .before .pre in
-    (λ _. t .subnormals .ensures, p .0, p .1))
-    (λ c. walks-same (walked c .hand-pieces .ensures) .in-x)
-    (λ c. walks-same (walked c .hand-pieces .ensures) .in-y)
-    (λ c. walks-same (walked c .hand-pieces .ensures) .in-z)
-    (λ c. walks-same (walked c .hand-pieces .ensures) .in-level)
-    (λ c. walks-same (walked c .hand-pieces .ensures) .in-value)
-    (λ c. walked c .hand-pieces .ensures)
-    (λ c. search needs)
-    (λ c κs.
-    let t = c .before .before .before .before .before .before in
-    let p = t .before .before .before .before .before .pre in
-    (λ e. absurd (t .if1 .left e), p .0, p .1))
-    (λ c. walks-same (walked2 c .hand-pieces2 .ensures) .in-x)
-    (λ c. walks-same (walked2 c .hand-pieces2 .ensures) .in-y)
-    (λ c. walks-same (walked2 c .hand-pieces2 .ensures) .in-z)
-    (λ c. walks-same (walked2 c .hand-pieces2 .ensures) .in-level)
-    (λ c. walks-same (walked2 c .hand-pieces2 .ensures) .in-value)
-    (λ c. walked2 c .hand-pieces2 .ensures))
+    (λ c. search needs) (λ c. search needs) (λ c. search needs) (λ c. search needs) (λ c. search needs)
+    returns
+    (λ c κs. search needs)
+    (λ c. search needs) (λ c. search needs) (λ c. search needs) (λ c. search needs) (λ c. search needs)
+    returns-2)

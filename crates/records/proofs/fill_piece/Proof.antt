@@ -14,7 +14,7 @@ use Rattle.records.proofs.fill_piece.Tie as tie
 
 -- back from the masks' length to the function's start, and from a piece with places left to there; from words that are a walk's to such a piece
 abbrev start : tie.After-mask-bytes → tie.Start
-start c = c .before .before .before .before .before
+start c = c .before .before .before .before
 
 abbrev piece : tie.Else1 → tie.After-mask-bytes
 piece c = c .before .before
@@ -35,7 +35,7 @@ fill-words-requires c κs =
     let p = start (piece (tested t)) .pre in
     let n = piece (tested t) .mask-bytes .ensures .0 in
     let there = inside-back _ _ (is-there t) in
-    (piece-readable _ _ there _ _ (p .0) (p .1) (r .remaining .ensures), piece-masks _ _ there n, rw n (some-left (tested t)), p .2)
+    (piece-readable _ _ there _ (p .0) (r .remaining .ensures), piece-masks _ _ there n, rw n (some-left (tested t)), p .1)
 
 returns-3 : tie.Need-returns-3
 returns-3 c =
@@ -54,7 +54,7 @@ fill-piece-spec =
     (λ c κs. (piece c .mask-bytes .ensures .0, level-small _ _ (some-left c)))
     (λ c. piece-none _ _ _ _ _ _ (some-left (c .before .before)) (sym (c .before .is-inside .ensures) ∙ not-true _ (c .if2 .taken)))
     (λ c κs. search needs)
-    (λ c. omega (arith, start (piece (tested (c .before .before))) .pre .1 .0))
+    (λ c. omega (arith, start (piece (tested (c .before .before))) .pre .0 .0))
     fill-words-requires
     (λ c. search needs) (λ c. search needs) (λ c. search needs) (λ c. search needs) (λ c. search needs)
     returns-3)

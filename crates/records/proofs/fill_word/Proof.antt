@@ -16,7 +16,7 @@ use Rattle.records.proofs.fill_word.Tie as tie
 -- A full word.
 module _ (c : tie.Then1) where
   abbrev start : tie.Start
-  start = c .before .before .before .before .before .before
+  start = c .before .before .before .before .before
 
   full : let a = start .args in (a .word .ones ≡ 18446744073709551615) × (a .slot + 64 ≤ a .limit) × (a .word .inside .number + 64 ≤ a .room)
   full = full-there _ _ _ _ (sym (c .before .is-full .ensures) ∙ c .if1 .taken)

@@ -16,19 +16,19 @@ use Rattle.records.proofs.fill_words.Statement.{statement}
 use Rattle.records.proofs.fill_words.Tie as tie
 
 abbrev Inv-loop : tie.InvT-loop
-Inv-loop table s c room n slot limit x₀ y₀ z₀ level₀ value₀ t₀ i₀ x y z level value t i =
-    Readable table s c room (t .inside) × Masks s n (t .inside) × (t .whole ≡ true)
+Inv-loop s c room n slot limit x₀ y₀ z₀ level₀ value₀ t₀ i₀ x y z level value t i =
+    Readable s c room (t .inside) × Masks s n (t .inside) × (t .whole ≡ true)
     × (i % 8 ≡ 0) × (t .filled < limit → (8 * i ≤ t .inside .from) × (t .inside .from < 8 * i + 64))
     × Room limit (slotsOf x y z level value) × Same (slotsOf x y z level value) (slotsOf x₀ y₀ z₀ level₀ value₀)
     × Going (t .filled) (handOut s c (limit - t .filled) (t .inside) (8 * n - t .inside .from)) (slotsOf x y z level value)
     (t₀ .filled) (handOut s c (limit - t₀ .filled) (t₀ .inside) (8 * n - t₀ .inside .from)) (slotsOf x₀ y₀ z₀ level₀ value₀)
 
 abbrev μ-loop : tie.MeasureT-loop
-μ-loop table s c room n slot limit x₀ y₀ z₀ level₀ value₀ t₀ i₀ x y z level value t i = n - i
+μ-loop s c room n slot limit x₀ y₀ z₀ level₀ value₀ t₀ i₀ x y z level value t i = n - i
 
 -- back from the loop to the function's start, from where a word is looked for to its turn of the loop, and from where it is filled in to there
 abbrev start : tie.At-loop Inv-loop μ-loop → tie.Start Inv-loop μ-loop
-start c = c .before .before .before .before .before .before
+start c = c .before .before .before .before .before
 
 abbrev turn : tie.Else1 Inv-loop μ-loop → tie.At-loop Inv-loop μ-loop
 turn c = c .before .before .before
@@ -64,7 +64,7 @@ loop-again c =
     let all = sym (f .whole) ∙ not-false _ (c .if2 .left) in
     let here = l .inv .4 (place .if1 .left) in
     let inside = next-place place in (
-      rw (f .inside) (hand-readable _ _ _ _ _ _ _ (rw (e .1) (l .inv .0))),
+      rw (f .inside) (hand-readable _ _ _ _ _ _ (rw (e .1) (l .inv .0))),
       rw (f .inside) (hand-masks _ _ _ _ _ (rw (e .1) (l .inv .1))),
       not-false _ (c .if2 .left),
       omega (arith, l .inv .3),
@@ -93,7 +93,7 @@ fill-words-spec =
     Inv-loop
     μ-loop
     (λ c. search needs) (λ c. search needs)
-    (λ c. let p = c .before .before .before .before .before .pre in (p .0, p .1, refl, omega arith, (λ l. (omega arith, omega arith)), p .3, same _, starts _ _ _))
+    (λ c. let p = c .before .before .before .before .pre in (p .0, p .1, refl, omega arith, (λ l. (omega arith, omega arith)), p .3, same _, starts _ _ _))
     (λ c κs. (turn (c .before) .loop .inv .1, next-place (c .before)))
     fill-word-requires
     (λ c. let w = sought (found (filled (c .before))) in omega (arith, w .before .before .loop-test .taken))

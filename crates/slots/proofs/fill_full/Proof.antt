@@ -19,7 +19,7 @@ abbrev x : tie.After-fill-axis2 → tie.After-fill-axis
 x c = c .before .before .before
 
 abbrev start : tie.After-fill-axis → tie.Start
-start c = c .before .before .before .before .before .before
+start c = c .before .before .before .before .before
 
 fill-values-requires : tie.Need-fill-values-requires
 fill-values-requires c κs =

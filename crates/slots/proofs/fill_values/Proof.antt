@@ -1,49 +1,39 @@
--- The invariant: k slots have the first k values, whose numbers are below the room. The loop ends at 64.
+-- Halves that are all normal are the stored values; elsewhere the call's own promise.
 use borrow.Author.Needs.{needs}
-use mathlib.Core.Path.{_≡_, refl}
-use Prim.Native.Nat.{ℕ, _+_, _-_, _≤_, _<_}
+use mathlib.Core.Path.{sym, ap, _∙_}
 use native.Mathlib.Omega.{arith}
-use lib.ListN.{length, length-set}
-use Rattle.slots.specs.Inner.{roomOf, valueAt, ranged}
-use Rattle.slots.proofs.Laws.{in-room}
-use Rattle.slots.proofs.Runs.{ranged-none, ranged-next}
+use Rattle.slots.specs.Inner.{ranged}
+use Rattle.slots.proofs.Runs.{halves-are, halves-there}
 use Rattle.slots.proofs.fill_values.Statement.{statement}
 use Rattle.slots.proofs.fill_values.Tie as tie
 
-abbrev Inv-loop : tie.InvT-loop
-Inv-loop table s c room w slot value₀ k₀ value k = (k ≤ 64) × (length value ≡ length value₀) × (value ≡ ranged value₀ slot k (valueAt s c w))
+-- back from where the halves' position is known to the values' width, from there to the function's start; and from the call for normal halves
+abbrev halves : tie.After-struct-known3 → tie.Then1
+halves c = c .before .before
 
-abbrev μ-loop : tie.MeasureT-loop
-μ-loop table s c room w slot value₀ k₀ value k = 64 - k
+abbrev start : tie.Then1 → tie.Start
+start c = c .before .before .before .before
 
-abbrev start : tie.In-loop Inv-loop μ-loop → tie.Start Inv-loop μ-loop
-start c = c .before .before .before .before .before
-
--- the numbers are below the room
-below : (c : tie.Start Inv-loop μ-loop) (k : ℕ) → k < 64 → c .args .w .number + k < roomOf (c .args .s .now) (c .args .c) (c .args .w .start)
-below c k l = omega (arith, c .pre .1, c .pre .0 .values)
+abbrev tested : tie.After-fill-normal-arg → tie.After-are-normal
+tested c = c .before .before
 
 pub fill-values-spec : {M : Type 1} → statement M
-unfolding valueAt
 fill-values-spec =
     tie.close
     (tie.spec
-    Inv-loop
-    μ-loop
-    (λ c. (search needs, refl, ranged-none _ _ _))
-    (λ c. search needs)
-    (λ c. let p = start (c .before) .pre in omega (arith, p .0 .number, p .2, c .before .loop-test .taken))
+    (λ c. let p = start (c .before) .pre in omega (arith, p .0 .number, p .2))
+    (λ c. let p = start (halves c) .pre in omega (arith, halves-there _ _ _ (halves c .if1 .taken) _ (p .0) (p .1)))
+    (λ c κs. let p = start (halves c) .pre in halves-there _ _ _ (halves c .if1 .taken) _ (p .0) (p .1))
     (λ c κs.
-    let p = start (c .before) .pre in
-    let w = start (c .before) .args .w in (
-      p .0 .subnormals,
-      p .0 .width,
-      (omega (arith, p .0 .number, p .2, c .before .loop-test .taken), in-room _ _ _ _ (p .0 .width) (below (start (c .before)) (c .before .before .loop .k) (c .before .loop-test .taken))),
-    ))
+    let t = tested c in
+    let h = halves (t .before) in
+    let p = start h .pre in
+    (halves-there _ _ _ (h .if1 .taken) _ (p .0) (p .1), sym (t .are-normal .ensures) ∙ c .before .if2 .taken, p .3))
     (λ c. search needs)
-    (λ c. let t = c .before .before in omega (arith, t .loop-test .taken, t .before .loop .inv .1, start t .pre .3))
+    (λ c.
+    let f = c .before .before in
+    let h = halves (tested (f .before) .before) in
+    f .fill-normal .ensures ∙ ap (ranged _ _ 64) (halves-are _ _ _ (h .if1 .taken)))
+    (λ c κs. search needs)
     (λ c. search needs)
-    (λ c. search needs)
-    (λ c. let l = c .before .before .before .loop in (omega (arith, c .before .before .loop-test .taken), simp length-set (l .inv .1), ranged-next _ _ _ _ (l .inv .2) (c .stored-with .ensures)))
-    (λ c. search needs)
-    (λ c. let e : c .before .loop .k ≡ 64 = omega arith in rw e at (c .before .loop .inv .2)))
+    (λ c. search needs))
