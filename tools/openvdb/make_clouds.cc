@@ -227,6 +227,28 @@ FloatGrid::Ptr half_cloud() {
     return grid;
 }
 
+// Halves in full mask words. Of the first leaf four words have only normal halves, one has a subnormal first, one a subnormal last, one an infinity,
+// one a not-a-number and minus zero. In the second leaf a word is empty and one lacks a voxel, so that later words start at odd stored values.
+FloatGrid::Ptr full_halves() {
+    FloatGrid::Ptr grid = fog("full");
+    grid->setSaveFloatAsHalf(true);
+    FloatTree& tree = grid->tree();
+    for (int z : {0, 8}) {
+        Leaf* leaf = add_leaf(tree, Coord(0, 0, z), 0.0f);
+        for (openvdb::Index p = 0; p < 512; ++p) {
+            const bool left_out = z == 8 && (p / 64 == 1 || p == 3 * 64 + 5);
+            if (!left_out) leaf->setValueOn(p, half(uint16_t((p % 3 == 0 ? 0x8000 : 0) + 0x0400 + p * 977 % 0x7800)));
+        }
+    }
+    Leaf* first = tree.probeLeaf(Coord(0, 0, 0));
+    first->setValueOn(4 * 64, half(0x0001));
+    first->setValueOn(5 * 64 + 63, half(0x83ff));
+    first->setValueOn(6 * 64 + 31, half(0xfc00));
+    first->setValueOn(7 * 64 + 8, half(0x7e01));
+    first->setValueOn(7 * 64 + 9, half(0x8000));
+    return grid;
+}
+
 // Voxels in the first and in the last corner of all coordinates.
 FloatGrid::Ptr edge_cloud() {
     FloatGrid::Ptr grid = fog("edge");
@@ -397,5 +419,6 @@ int main(int argc, char** argv) {
     refused("refused.vdb", 10);
     write("no_grids.vdb", 11, ACTIVE, {});
     stream("stream.vdb", 12);
+    write("half_full.vdb", 13, ACTIVE, {full_halves()});
     return 0;
 }
