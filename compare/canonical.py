@@ -88,10 +88,10 @@ def kind(name):
     return KINDS.get(name[1], 'descriptors')
 
 
-def differences(one, other):
+def differences(one, other, without=()):
     """How many things of each kind were compared, and those that differ. Where only one side has an
     answer for a grid, or for the file, that is one difference; of the rest of that grid only what
-    both sides tell is compared."""
+    both sides tell is compared. Of the grids in `without` no leaf and no record is."""
     one, other = items(one), items(other)
     counts, found = {}, []
     whole = (None, 'answer') not in one and (None, 'answer') not in other
@@ -100,12 +100,14 @@ def differences(one, other):
         answers = [side.get((grid, 'answer')) for side in (one, other)]
         if any(answers):
             silent.add(grid)
-            if not all(answers):
+            if not all(answers) and grid not in without:
                 found.append(((grid, 'answer'), *(answer or 'answered' for answer in answers)))
     for name in sorted(one | other, key=str):
         if name[1] == 'answer':
             continue
         if (not whole or name[0] in silent) and (name[1] == 'records' or name not in one or name not in other):
+            continue
+        if name[0] in without and kind(name) in ('leaves', 'active items'):
             continue
         counts[kind(name)] = counts.get(kind(name), 0) + 1
         pair = one.get(name, 'absent'), other.get(name, 'absent')

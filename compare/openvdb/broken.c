@@ -42,6 +42,7 @@ static uint32_t described(uint32_t k, uint64_t *out)
     if (broken(3) && k == 0) out[VDB_GRID_FLAGS] ^= 2;
     if (broken(4) && k == 0) out[VDB_GRID_BLOCK_POSITION]++;
     if (broken(5) && k == 0 && out[VDB_GRID_PARENT_LEN] > 0) out[VDB_GRID_PARENT_LEN]--;
+    if (broken(27) && k == 0 && out[VDB_GRID_WIDTH] == 2) out[VDB_GRID_WIDTH] = 4;
     return k;
 }
 

@@ -73,6 +73,7 @@ void descriptor(const Bytes& bytes, const RawGrid& raw, uint32_t number)
     agree(ours[VDB_GRID_END_POSITION] == raw.end, "ours: end position");
     agree(ours[VDB_GRID_FLAGS] == raw.flags, "ours: flags");
     agree((ours[VDB_GRID_HALF] == 2) == raw.half, "ours: half");
+    agree(ours[VDB_GRID_WIDTH] == (raw.half ? 2 : 4), "ours: width");
     agree(ours[VDB_GRID_METADATA] == raw.metadata.at, "ours: grid metadata");
     agree(ours[VDB_GRID_TREE] == raw.follows, "ours: what follows the metadata");
 }

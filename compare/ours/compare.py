@@ -50,7 +50,7 @@ class Counts:
     """How many things of each kind were compared, and which refusals were met."""
 
     def __init__(self):
-        self.kinds, self.refused, self.strange, self.rows, self.files = {}, {}, 0, {}, 0
+        self.kinds, self.refused, self.strange, self.rows, self.files, self.dropped = {}, {}, 0, {}, 0, 0
 
     def add_kinds(self, compared):
         for kind, count in compared.items():
@@ -67,6 +67,8 @@ class Counts:
             return ', '.join('%d %s' % (count, kind) for kind, count in sorted(found.items(), key=key)) or 'none'
         lines = ['%d files; compared: %s' % (self.files, listed_by(self.kinds)),
                  'refusals: ' + (', '.join('%d times %d' % (count, number) for number, count in sorted(self.refused.items())) or 'none')]
+        if self.dropped:
+            lines.append('D37: %d grids whose values are not compared' % self.dropped)
         if self.rows:
             lines.append('listed differences: ' + listed_by(self.rows, key=lambda item: int(item[0][1:])))
         return '\n'.join(lines + ['%d on no list' % self.strange])
@@ -107,7 +109,9 @@ def apart_from_listed(dump, rust, paths, counts):
         theirs = rows.dumped(rust, path, memory=12 << 30)
         version = int((re.search(r'^version (\d+)', text, flags=re.MULTILINE) or [0, 0])[1])
         *rest, common = without_common(theirs, text)
-        compared, found = canonical.differences(*rest)
+        without = listed.dropped(canonical.items(rest[1]))
+        compared, found = canonical.differences(*rest, without)
+        counts.dropped += len(without)
         counts.add(text, compared)
         counts.add_kinds(kinds(first_words(common)))
         for name, one, other in found:

@@ -109,8 +109,8 @@ static void descriptor(const struct question *q)
     span(d[VDB_GRID_NAME_START], d[VDB_GRID_NAME_LEN]);
     span(d[VDB_GRID_TYPE_START], d[VDB_GRID_TYPE_LEN]);
     span(d[VDB_GRID_PARENT_START], d[VDB_GRID_PARENT_LEN]);
-    printf(" %" PRIu64 " %" PRIu64 " %" PRIu64 " %" PRIu64 " %" PRIu64 " %" PRIu64, d[VDB_GRID_POSITION], d[VDB_GRID_BLOCK_POSITION],
-           d[VDB_GRID_END_POSITION], d[VDB_GRID_FLAGS], d[VDB_GRID_METADATA], d[VDB_GRID_TREE]);
+    printf(" %" PRIu64 " %" PRIu64 " %" PRIu64 " %" PRIu64 " %" PRIu64 " %" PRIu64 " %" PRIu64, d[VDB_GRID_POSITION], d[VDB_GRID_BLOCK_POSITION],
+           d[VDB_GRID_END_POSITION], d[VDB_GRID_FLAGS], d[VDB_GRID_WIDTH], d[VDB_GRID_METADATA], d[VDB_GRID_TREE]);
 }
 
 static void entry(const struct question *q)

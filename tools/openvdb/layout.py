@@ -145,10 +145,11 @@ class Grid:
             raise Refused(7)
         found = metadata(reader)
         self.follows = reader.at
-        self.width = 4
+        by_type = 2 if self.type.endswith(b'_HalfFloat') else 4
+        self.width = by_type
         for entry_name, entry_kind, _, _, value in found[1]:
             if entry_name == b'is_saved_as_half_float':
-                self.width = 2 if entry_kind == b'bool' and value[0] else 4
+                self.width = (2 if value[0] else 4) if entry_kind == b'bool' else by_type
         self.lines = ['grid %d' % number, text_line('name', name), text_line('type', kind),
                       text_line('parent', parent), 'positions %d %d %d' % tuple(positions),
                       'flags %d' % self.flags] + metadata_lines(found)

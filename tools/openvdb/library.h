@@ -202,9 +202,13 @@ struct Parse {
         grid.flags = version < 222 ? (packed ? 1 : 0) : u32();
         grid.metadata = entries();
         grid.follows = at;
+        const std::string ending = "_HalfFloat", &type = grid.type.bytes;
+        const bool by_type = type.size() >= ending.size()
+            && type.compare(type.size() - ending.size(), ending.size(), ending) == 0;
+        grid.half = by_type;
         for (const Entry& entry : grid.metadata.entries) {
             if (entry.name == "is_saved_as_half_float") {
-                grid.half = entry.kind == "bool" && entry.bytes != std::string(1, '\0');
+                grid.half = entry.kind == "bool" ? entry.bytes != std::string(1, '\0') : by_type;
             }
         }
         grid.map = text();

@@ -38,7 +38,7 @@ def header(file):
 
 def descriptor(grid):
     return (span(grid.name) + span(grid.type) + span(grid.parent)
-            + numbers(grid.grid, grid.block, grid.end, grid.flags, grid.metadata, grid.tree))
+            + numbers(grid.grid, grid.block, grid.end, grid.flags, document.width(grid), grid.metadata, grid.tree))
 
 
 def value(found):

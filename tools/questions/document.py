@@ -252,6 +252,14 @@ def active_places(level, origin, mask, stored):
     return [moved(origin, place, *LEVELS[level]) + (level, stored.at(place)) for place in rising(mask)]
 
 
+def width(grid):
+    """How many bytes a stored value takes: as the last half entry says if that is a bool, else by the ending of the type's name."""
+    said = [value for name, value in grid.entries if name == b'is_saved_as_half_float'][-1:]
+    if said and said[0][0] == 'b':
+        return 2 if said[0][1][0] else 4
+    return 2 if grid.type[2] == b'Tree_float_5_4_3_HalfFloat' else 4
+
+
 class Opened:
     """A grid, by its name or its number; `file` is what the bytes were opened as, where that is at hand."""
 
@@ -261,8 +269,7 @@ class Opened:
         check(grid.type[2] in (b'Tree_float_5_4_3', b'Tree_float_5_4_3_HalfFloat'), 12)
         check(not grid.parent[2], 13)
         check(not grid.flags & 5, 6)
-        half = [value for name, value in grid.entries if name == b'is_saved_as_half_float'][-1:]
-        coding = Coding(file.version, grid.flags, 2 if half == [('b', (True,))] else 4)
+        coding = Coding(file.version, grid.flags, width(grid))
         reader = Reader(data, grid.tree)
         self.map = transform(reader)
         self.background, self.tree = topology(reader, coding)

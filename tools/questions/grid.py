@@ -263,9 +263,9 @@ def masks_by_rule(*seeds):
 MASKS = masks_by_rule(5, 90)
 
 
-def built(version, flags, entries, width, leaves):
+def built(version, flags, entries, width, leaves, ending=''):
     """A file with the tree of A, but for its leaves, whose masks are given, up to where their blocks start. The end is at the grid."""
-    front = joined(head(version)) + bytes(36) + u32(0, 1) + joined(descriptor(NAME, TREE))
+    front = joined(head(version)) + bytes(36) + u32(0, 1) + joined(descriptor(NAME, TREE + ending))
     at = len(front) + 24
     every = flags & 2 == 0 or version < 222
     byte = b'' if version < 222 else b'\0'
@@ -321,30 +321,49 @@ def all_forms(q):
     half_entries(q)
 
 
-# What the entry may be, and whether it makes the width 2.
+def half_entry(kind, *value):
+    return string('is_saved_as_half_float') + string(kind) + list(value)
+
+
+INT = half_entry('int32', u32(4), u32(1))
+# What the entry may be, and the width with the plain type and with the ending.
 HALF_ENTRIES = [
-    ('bool, byte 128', 2, [u32(1)] + HALF + [b'\x80']),
-    ('int32 1', 4, [u32(1)] + string('is_saved_as_half_float') + string('int32') + [u32(4), u32(1)]),
-    ('string "true"', 4, [u32(1)] + string('is_saved_as_half_float') + string('string') + string('true')),
-    ('kind Bool', 4, [u32(1)] + string('is_saved_as_half_float') + string('Bool') + [u32(1), b'\1']),
-    ('true, then false', 4, [u32(2)] + HALF + [b'\1'] + HALF + [b'\0']),
-    ('false, then true', 2, [u32(2)] + HALF + [b'\0'] + HALF + [b'\1']),
-    ('another name', 4, [u32(1)] + string('is_saved_as_half_floaT') + string('bool') + [u32(1), b'\1']),
+    ('none', 4, 2, [u32(0)]),
+    ('true', 2, 2, [u32(1)] + HALF + [b'\1']),
+    ('bool, byte 128', 2, 2, [u32(1)] + HALF + [b'\x80']),
+    ('false', 4, 4, [u32(1)] + HALF + [b'\0']),
+    ('int32 1', 4, 2, [u32(1)] + INT),
+    ('int32 0', 4, 2, [u32(1)] + half_entry('int32', u32(4), u32(0))),
+    ('string "true"', 4, 2, [u32(1)] + half_entry('string', *string('true'))),
+    ('kind Bool', 4, 2, [u32(1)] + half_entry('Bool', u32(1), b'\1')),
+    ('true, then false', 4, 4, [u32(2)] + HALF + [b'\1'] + HALF + [b'\0']),
+    ('false, then true', 2, 2, [u32(2)] + HALF + [b'\0'] + HALF + [b'\1']),
+    ('true, then int32 1', 4, 2, [u32(2)] + HALF + [b'\1'] + INT),
+    ('false, then int32 1', 4, 2, [u32(2)] + HALF + [b'\0'] + INT),
+    ('int32 1, then false', 4, 4, [u32(2)] + INT + HALF + [b'\0']),
+    ('another name', 4, 2, [u32(1)] + string('is_saved_as_half_floaT') + string('bool') + [u32(1), b'\1']),
 ]
 
 
 def half_entries(q):
-    q.comment('== the entry is_saved_as_half_float')
+    """The file has as many bytes as values of that width take: it opens, and with a byte less it does not."""
     mask = MASKS[0]
     count = bin(int.from_bytes(mask, 'little')).count('1')
-    for name, width, entries in HALF_ENTRIES:
-        data = built(224, 2, entries, width, [mask])
-        q.comment(name)
-        q.make(data + mask)
-        q.size(len(data) + 65 + width * count)
-        q.random(len(data) + 65, 1200, 3)
-        agree(q, 0)
-        q.fill(0, 0)
+    for number, ending in enumerate(('', '_HalfFloat')):
+        q.comment('== the entry is_saved_as_half_float, type ' + TREE + ending)
+        for name, *widths, entries in HALF_ENTRIES:
+            width = widths[number]
+            data = built(224, 2, entries, width, [mask], ending)
+            q.comment(name)
+            q.make(data + mask)
+            q.size(len(data) + 65 + width * count)
+            q.random(len(data) + 65, width * count, 3)
+            agree(q, 0)
+            q.descriptor(0)
+            q.fill(0, 0)
+            q.size(len(data) + 64 + width * count)
+            agree(q, 2)
+            q.open(0)
 
 
 # Version 220: positions of the block's fields, and of the root's origin
@@ -379,12 +398,13 @@ def old(q):
     q.comment('cuts from the topology\'s end on')
     q.again()
     q.cuts(157000, len(data) + 2049)
-    q.comment('== version 221, halves')
-    data = built(221, 0, [u32(1)] + HALF + [b'\1'], 2, [mask]) + mask + i32(-3848, 248, 4344) + b'\1'
-    q.make(data + bytes(1024))
-    q.random(len(data), 1024, 1)
-    agree(q, 0)
-    four(q)
+    q.comment('== version 221, halves by the entry, and by the ending of the type')
+    for entries, ending in ([u32(1)] + HALF + [b'\1'], ''), ([u32(0)], '_HalfFloat'):
+        data = built(221, 0, entries, 2, [mask], ending) + mask + i32(-3848, 248, 4344) + b'\1'
+        q.make(data + bytes(1024))
+        q.random(len(data), 1024, 1)
+        agree(q, 0)
+        four(q)
 
 
 def ask(q):

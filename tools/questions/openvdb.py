@@ -66,8 +66,9 @@ class Described:
         return plain(TEXT.fullmatch(self.field('name'))[3])
 
     def descriptor(self):
-        return ''.join(span(self.field(label)) for label in ('name', 'type', 'parent')) + ' %s %s %s %s' % (
-            self.field('positions'), self.field('flags'), self.field('metadata').split()[0], self.field('follows'))
+        width = 2 if self.entries.get(b'is_saved_as_half_float') == ' b 1' else 4
+        return ''.join(span(self.field(label)) for label in ('name', 'type', 'parent')) + ' %s %s %d %s %s' % (
+            self.field('positions'), self.field('flags'), width, self.field('metadata').split()[0], self.field('follows'))
 
     def opened(self):
         case = 't' if 'Translate' in self.field('map') else 's'

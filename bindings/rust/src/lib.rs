@@ -134,13 +134,16 @@ pub struct GridDescriptor<'f> {
     pub end_pos: u64,
     /// How its values are stored.
     pub compression: Compression,
+    /// How many bytes a stored value takes: 2 for halves, 4 for floats. The entry `is_saved_as_half_float` says it if it is a bool, else the
+    /// ending `_HalfFloat` of the type.
+    pub value_width: u32,
     /// Its metadata.
     pub meta_data: Metadata<'f>,
 }
 
 impl<'f> GridDescriptor<'f> {
     fn find(file: &'f [u8], file_version: u32, grid: Asked) -> Result<Self, ParseError> {
-        let [name, name_len, kind, kind_len, parent, parent_len, grid_pos, block_pos, end_pos, flags, _, metadata, ..] =
+        let [name, name_len, kind, kind_len, parent, parent_len, grid_pos, block_pos, end_pos, flags, _, metadata, _, width, ..] =
             sys::grid(file, grid)?;
         let name = span(file, name, name_len);
         Ok(Self {
@@ -152,6 +155,7 @@ impl<'f> GridDescriptor<'f> {
             block_pos,
             end_pos,
             compression: Compression(flags as u32),
+            value_width: width as u32,
             meta_data: Metadata { file, grid: Some(name), start: metadata },
         })
     }

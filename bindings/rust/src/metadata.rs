@@ -66,7 +66,8 @@ impl<'f> Metadata<'f> {
         MetadataValue::new(self.file, sys::entry(self.file, self.grid, name.as_ref())?)
     }
 
-    /// Whether the entry `is_saved_as_half_float` is there, of kind bool, and true.
+    /// Whether the entry `is_saved_as_half_float` is there, of kind bool, and true. A grid may be stored as halves without it, by the
+    /// ending of its type: [`GridDescriptor::value_width`](crate::GridDescriptor::value_width) tells.
     pub fn is_half_float(&self) -> bool {
         self.get("is_saved_as_half_float") == Ok(MetadataValue::Bool(true))
     }

@@ -2,7 +2,7 @@
 
 mod common;
 
-use common::{case_a, digest, many_tiles, openvdb, read, refused_files};
+use common::{case_a, digest, half_entries, many_tiles, openvdb, read, refused_files};
 use std::collections::BTreeSet;
 use std::fmt::Write;
 use wuraiko::{walk, Compression, Grid, Map, MetadataValue, ParseError, Place, VdbLevel, VdbReader, Walked};
@@ -75,7 +75,7 @@ fn records_are_those_of_openvdb() {
         }
         accepted += 1;
     }
-    assert_eq!(accepted, 24);
+    assert_eq!(accepted, 25);
 }
 
 #[test]
@@ -293,6 +293,23 @@ fn the_names_of_vdb_rs_give_what_openvdb_wrote() {
     // A has no such entries.
     let a = case_a();
     assert_eq!(VdbReader::new(&a).unwrap().grid_descriptor("d").unwrap().voxel_count(), None);
+}
+
+#[test]
+fn the_width_is_that_of_the_entry_or_else_of_the_type() {
+    let expected = openvdb().into_iter().find(|(name, ..)| name == "half_active.vdb").unwrap().2;
+    for (what, file, width) in half_entries() {
+        let reader = VdbReader::new(&file).unwrap();
+        let descriptor = reader.grid_descriptor_numbered(0).unwrap();
+        assert_eq!((descriptor.grid_type, descriptor.value_width), (b"Tree_float_5_4_3_HalfFloat".as_slice(), width), "{what}");
+        assert_eq!(descriptor.meta_data.is_half_float(), what == "the entry");
+        if width == 2 {
+            let answer = described(&reader.read_grid_numbered(0).unwrap());
+            assert_eq!(answer, expected[..answer.len()], "{what}");
+        }
+    }
+    let a = case_a();
+    assert_eq!(VdbReader::new(&a).unwrap().grid_descriptor("d").unwrap().value_width, 4);
 }
 
 #[test]

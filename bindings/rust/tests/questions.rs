@@ -70,7 +70,7 @@ fn descriptor(file: &[u8], q: &Question) -> Result<String, ParseError> {
         _ => reader.grid_descriptor(&q.names[0])?,
     };
     let texts = [d.name, d.grid_type, d.instance_parent].map(|text| span(file, text)).concat();
-    Ok(format!("{texts} {} {} {} {}", d.grid_pos, d.block_pos, d.end_pos, d.compression.bits()))
+    Ok(format!("{texts} {} {} {} {} {}", d.grid_pos, d.block_pos, d.end_pos, d.compression.bits(), d.value_width))
 }
 
 fn entry(file: &[u8], metadata: Metadata, name: &[u8]) -> Result<String, ParseError> {

@@ -3,7 +3,7 @@
 mod common;
 
 use common::json::{self, Schema, Value};
-use common::{a_with, case_a, cloud, digest, many_tiles, openvdb, read, refused_files, repository};
+use common::{a_with, case_a, cloud, digest, half_entries, many_tiles, openvdb, read, refused_files, repository};
 use std::ffi::OsStr;
 use std::fs;
 use std::io::Write;
@@ -94,6 +94,17 @@ fn decimals_are_the_floats_of_the_bits() {
         assert_eq!(field(&out(&run(&[&file.0])), "background"), text);
         assert_eq!(field(&out(&program().arg("--hex").arg(&file.0).output().unwrap()), "background"), format!("{pattern:08x}"));
         assert!(out(&program().arg("--json").arg(&file.0).output().unwrap()).contains(&format!("\"background\": {in_json},")));
+    }
+}
+
+#[test]
+fn halves_are_said_by_the_entry_or_else_by_the_type() {
+    for (what, bytes, width) in half_entries() {
+        let file = Kept::new(&what.replace(' ', "-"), &bytes);
+        let stored = if width == 2 { "active values as halves, unpacked (flags 2)" } else { "active values, unpacked (flags 2)" };
+        assert_eq!(field(&out(&run(&[&file.0])), "stored"), stored, "{what}");
+        let as_json = out(&program().arg("--json").arg(&file.0).output().unwrap());
+        assert!(as_json.contains(&format!("\"half\": {},", width == 2)), "{what}");
     }
 }
 
@@ -550,5 +561,5 @@ fn voxels_are_those_that_openvdb_counted() {
             compared += 1;
         }
     }
-    assert_eq!(compared, 22);
+    assert_eq!(compared, 23);
 }

@@ -63,7 +63,7 @@ content-again s t h d u = then-always _ _ _ λ map q e. then-always _ _ _ λ hea
       then-got _ (maps .again map q e (omega arith) (part here (omega arith) (omega arith)))
           (then-got _ (heads .again head p f l (part here (omega arith) n))
           (then-got _ (trees .reads .again roots r g m here) (then-got _ (fills .reads .again filled v i (omega arith) blocks) refl))),
-      (width-is (d .half), same, fills .tells filled v i (omega arith) blocks),
+      (width-is (d .half) (d .kind), same, fills .tells filled v i (omega arith) blocks),
     ))
 
 pub grid-field-again :

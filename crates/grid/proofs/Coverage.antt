@@ -14,6 +14,8 @@ use Rattle.header.specs.declared.ArchiveHeader.{ArchiveHeader}
 use Rattle.descriptor.specs.declared.GridDescriptor.{GridDescriptor}
 use Rattle.descriptor.specs.declared.HalfEntry.{HalfEntry}
 use Rattle.descriptor.specs.declared.HalfEntry.the-variants as Half
+use Rattle.descriptor.specs.declared.TreeKind.{TreeKind}
+use Rattle.descriptor.specs.declared.TreeKind.the-variants as Kind
 use Rattle.fields.proofs.Answers.{with-back, answer-back}
 use Rattle.coordinates.specs.declared.GlobalCoord.{GlobalCoord}
 use Rattle.half.specs.Inner.{isWidth}
@@ -32,11 +34,13 @@ pub record GridRead (s : List ℕ) (g : Grid) : Type 0 where
   pub width : isWidth (g .coding .width)
 
 -- the width is 2 or 4
-pub width-is : (e : HalfEntry) → isWidth (widthOf e)
+pub width-is : (e : HalfEntry) (k : TreeKind) → isWidth (widthOf e k)
 unfolding widthOf
-width-is (Half.Says true) = omega arith
-width-is (Half.Says false) = omega arith
-width-is Half.Nothing = omega arith
+width-is (Half.Says true) k = omega arith
+width-is (Half.Says false) k = omega arith
+width-is Half.Nothing Kind.Float = omega arith
+width-is Half.Nothing Kind.HalfFloat = omega arith
+width-is Half.Nothing Kind.Other = omega arith
 
 grid-field : (s : List ℕ) (h : ArchiveHeader) (d : GridDescriptor) → Always (λ g p. GridRead s g) (gridField s h d)
 unfolding gridField contentField
@@ -47,7 +51,7 @@ grid-field s h d =
       parsed = record { count = head .«root_count»; start = q; end = r; block = d .«block_pos»; past = v; roots-read = f; blocks-read = i };
       start = ap (λ (at : ℕ). betweenRoots (head .«root_count») at (d .«block_pos»)) (head-end s rootLimit p head q e);
       few = head-inside s rootLimit p head q e .0;
-      width = width-is (d .half);
+      width = width-is (d .half) (d .kind);
     })
 
 pub grid-read : (s : List ℕ) (asked : Asked) (name : List ℕ) {g : Grid} → gives g ≡ grid s asked name → GridRead s g

@@ -36,15 +36,18 @@ isFloatTree Kind.Float = true
 isFloatTree Kind.HalfFloat = true
 isFloatTree Kind.Other = false
 
--- section 5: a stored value takes two bytes where the grid's half entry is a bool and true, else four
-unfoldable pub widthOf : HalfEntry → ℕ
-widthOf (Half.Says true) = 2
-widthOf (Half.Says false) = 4
-widthOf Half.Nothing = 4
+-- Section 5 and N4, how many bytes a stored value takes: the grid's half entry says it where it is a bool; where there is none, or it is of another kind,
+-- the ending of the type's name does. Of another tree, which check 12 refuses, no value is read.
+unfoldable pub widthOf : HalfEntry → TreeKind → ℕ
+widthOf (Half.Says true) kind = 2
+widthOf (Half.Says false) kind = 4
+widthOf Half.Nothing Kind.Float = 4
+widthOf Half.Nothing Kind.HalfFloat = 2
+widthOf Half.Nothing Kind.Other = 4
 
 -- how the grid's values are stored, and the background that they stand out from
 abbrev pub codingOf : ArchiveHeader → GridDescriptor → TreeHead → Coding
-codingOf h d head = record { version = h .«file_version»; flags = d .compression; width = widthOf (d .half); background = head .background }
+codingOf h d head = record { version = h .«file_version»; flags = d .compression; width = widthOf (d .half) (d .kind); background = head .background }
 
 -- check 16: how many roots a tree may have
 abbrev pub rootLimit : ℕ

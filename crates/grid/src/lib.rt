@@ -68,12 +68,16 @@ fn is_float_tree(kind: TreeKind) -> bool
     }
 }
 
-// The width of a stored value, by the grid's half entry.
-fn width_of(half: HalfEntry) -> usize
-    ensures { λ r. ⌜ (r ≡ widthOf half) × isWidth r ⌝ }
+// The width of a stored value: by the grid's half entry, and where that says nothing by the ending of its type's name.
+pub fn width_of(half: HalfEntry, kind: TreeKind) -> usize
+    ensures { λ r. ⌜ (r ≡ widthOf half kind) × isWidth r ⌝ }
 {
     match half {
-        HalfEntry::Nothing => 4,
+        HalfEntry::Nothing => match kind {
+            TreeKind::Float => 4,
+            TreeKind::HalfFloat => 2,
+            TreeKind::Other => 4,
+        },
         HalfEntry::Says(b) => {
             if b {
                 return 2;
@@ -87,10 +91,11 @@ fn coding_of(h: ArchiveHeader, d: GridDescriptor, head: TreeHead) -> Coding
     ensures { λ r. ⌜ (r ≡ codingOf h d head) × isWidth (r .width) ⌝ }
 {
     let half = d.half;
+    let kind = d.kind;
     Coding {
         version: h.file_version,
         flags: d.compression,
-        width: width_of(half),
+        width: width_of(half, kind),
         background: head.background,
     }
 }

@@ -14,6 +14,7 @@ use Rattle.metadata.specs.declared.MetadataValue.{MetadataValue}
 use Rattle.metadata.specs.declared.MetadataValue.the-variants as Value
 use Rattle.transform.specs.declared.Map.{Map}
 use Rattle.transform.specs.declared.Map.the-variants as M
+use Rattle.grid.specs.Grid.{widthOf}
 use Rattle.grid.specs.declared.OpenedGrid.{OpenedGrid}
 use Rattle.words.specs.Words.{pattern}
 
@@ -38,13 +39,13 @@ halfNumber (Half.Says true) = 2
 halfNumber (Half.Says false) = 1
 halfNumber Half.Nothing = 0
 
--- section 2: name, type and parent by start and length, the three positions, the flags, the half entry, where metadata and tree start; the last three
--- are 0, room for what may be told later
+-- section 2: name, type and parent by start and length, the three positions, the flags, the half entry, where metadata and tree start; section 5: how
+-- many bytes a stored value takes; the last two are 0, room for what may be told later
 abbrev pub descriptorWords : GridDescriptor → List ℕ
 descriptorWords d =
     d .name .start ∷ d .name .len ∷ d .«grid_type» .start ∷ d .«grid_type» .len ∷ d .«instance_parent» .start ∷ d .«instance_parent» .len
     ∷ d .«grid_pos» ∷ d .«block_pos» ∷ d .«end_pos» ∷ d .compression ∷ halfNumber (d .half) ∷ d .«meta_pos» ∷ d .«tree_pos»
-    ∷ 0 ∷ 0 ∷ 0 ∷ []
+    ∷ widthOf (d .half) (d .kind) ∷ 0 ∷ 0 ∷ []
 
 -- section 2: an entry's kind, by its number, and its value; strings and raw values by start and length, a raw value's kind behind it
 abbrev pub entryWords : MetadataValue → List ℕ

@@ -48,6 +48,7 @@ pub fn descriptor_words(d: GridDescriptor) -> [u64; 16]
     let grid_type = d.grid_type;
     let parent = d.instance_parent;
     let half = d.half;
+    let kind = d.kind;
     [
         name.start as u64,
         name.len as u64,
@@ -62,7 +63,7 @@ pub fn descriptor_words(d: GridDescriptor) -> [u64; 16]
         half_number(half),
         d.meta_pos as u64,
         d.tree_pos as u64,
-        0,
+        grid::width_of(half, kind) as u64,
         0,
         0,
     ]

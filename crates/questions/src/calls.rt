@@ -55,6 +55,9 @@ fn descriptor(a: DescriptorAnswer, s: &[u8]) {
             show::size(d.block_pos);
             show::size(d.end_pos);
             show::small(d.compression);
+            let half = d.half;
+            let kind = d.kind;
+            show::size(grid::width_of(half, kind));
             show::size(d.meta_pos);
             show::size(d.tree_pos);
         }

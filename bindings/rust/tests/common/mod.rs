@@ -49,6 +49,25 @@ pub fn a_with(at: usize, bytes: &[u8]) -> Vec<u8> {
     file
 }
 
+/// `half_active.vdb`, whose type ends in `_HalfFloat` and whose half entry is true, and the same with another entry in its place; with each how wide
+/// values are then.
+pub fn half_entries() -> Vec<(&'static str, Vec<u8>, u32)> {
+    let file = read("half_active.vdb");
+    let name = b"is_saved_as_half_float";
+    let at = file.windows(22).position(|bytes| bytes == name).unwrap();
+    let with = |at: usize, bytes: &[u8]| {
+        let mut file = file.clone();
+        file[at..at + bytes.len()].copy_from_slice(bytes);
+        file
+    };
+    vec![
+        ("the entry", file.clone(), 2),
+        ("another name", with(at + 21, b"T"), 2),
+        ("another kind", with(at + 26, b"boot"), 2),
+        ("false", with(at + 34, b"\0"), 4),
+    ]
+}
+
 /// The examples of document 01's table in section 8 that are files, by the number of their check; 1, 11, 21 and 22 are no files of A's size.
 pub fn refused_files() -> Vec<(u32, Vec<u8>)> {
     let word = |at, n: u32| a_with(at, &n.to_le_bytes());

@@ -149,7 +149,7 @@ fn text_value(value: MetadataValue, hex: bool) -> String {
 fn stored(descriptor: &GridDescriptor) -> String {
     let flags = descriptor.compression;
     let values = if flags.contains(Compression::ACTIVE_MASK) { "active values" } else { "all values" };
-    let width = if descriptor.meta_data.is_half_float() { " as halves" } else { "" };
+    let width = if descriptor.value_width == 2 { " as halves" } else { "" };
     let packed = match (flags.contains(Compression::ZIP), flags.contains(Compression::BLOSC)) {
         (false, false) => "unpacked",
         (true, false) => "packed with ZIP",
@@ -270,7 +270,7 @@ fn json_map(map: &Map) -> String {
 fn json_grid(descriptor: &GridDescriptor, found: &Result<Found, ParseError>, form: Form, out: &mut impl Write) -> io::Result<()> {
     write!(out, "  {{\"name\": {}, \"type\": {}", json::text(descriptor.name), json::text(descriptor.grid_type))?;
     write!(out, ", \"parent\": {}, \"flags\": {}", json::text(descriptor.instance_parent), descriptor.compression.bits())?;
-    writeln!(out, ", \"half\": {},", descriptor.meta_data.is_half_float())?;
+    writeln!(out, ", \"half\": {},", descriptor.value_width == 2)?;
     match found {
         Err(e) => writeln!(out, "   {},", json::refusal(*e))?,
         Ok(found) => json_found(found, form.hex, out)?,
