@@ -66,7 +66,8 @@ unfoldable pub halfEntry : Option Entry → HalfEntry
 halfEntry none = Half.Nothing
 halfEntry (some e) = halfBy (e .value)
 
--- Check 12 asks which tree a type's name stands for: one of floats, one of floats with the ending that tells of halves, or another.
+-- Check 12, and section 5 with N4, ask which tree a type's name stands for: one of floats, one of floats with the ending that tells of halves, or
+-- another.
 unfoldable pub treeKind : List ℕ → TreeKind
 treeKind name = when (sameBytes name (ascii "Tree_float_5_4_3")) Tree.Float (when (sameBytes name (ascii "Tree_float_5_4_3_HalfFloat")) Tree.HalfFloat Tree.Other)
 

@@ -36,7 +36,7 @@ pub enum HalfEntry {
     Nothing,
 }
 
-// Which tree the name of a grid's type stands for: one of floats, one of floats that are stored as halves, or another.
+// Which tree the name of a grid's type stands for: one of floats, one of floats with the ending that tells of halves, or another.
 pub enum TreeKind {
     Float,
     HalfFloat,
