@@ -69,7 +69,7 @@ enum {
     VDB_GRID_HALF,           /* the metadata entry is_saved_as_half_float: 2 where it is true, 1 where false, 0 where there is none or its kind is another */
     VDB_GRID_METADATA,       /* where the grid's metadata starts, and where what follows it starts */
     VDB_GRID_TREE,
-    VDB_GRID_WIDTH,          /* how many bytes a stored value takes, by that entry, and where it says nothing by the type's ending: 2 or 4 */
+    VDB_GRID_WIDTH,          /* how many bytes a stored value takes, 2 or 4: by VDB_GRID_HALF, and where that is 0 by the type's ending _HalfFloat */
     VDB_GRID_WORDS = 16      /* the last ones are 0 */
 };
 
