@@ -1,10 +1,10 @@
 -- A run: slots filled one after the other, slice by slice, have the records of as many places.
 use mathlib.Core.Path.{_≡_, refl, ap, _∙_}
 use mathlib.Core.List.{List, [], _∷_}
-use Prim.Native.Nat.{ℕ, zero, suc, _+_, _*_, _≤_}
+use Prim.Native.Nat.{ℕ, zero, suc, _+_, _*_, _≤_, _<_}
 use native.Mathlib.Numerals.{add-one}
 use native.Mathlib.Omega.{arith}
-use lib.ListN.{length, length-append, set}
+use lib.ListN.{length, length-append, length-set, set}
 use Rattle.fields.specs.Le.{u16At}
 use Rattle.half.specs.Half.{widened}
 use Rattle.half.proofs.Laws.{stored-half}
@@ -21,14 +21,21 @@ axis-last o zero a b = absurd (a refl)
 axis-last o (suc zero) a b = absurd (b refl)
 axis-last o (suc (suc n)) a b = refl
 
--- elements set one after the other
-pub ranged-none : {A : Type 0} (xs : List A) (i : ℕ) (f : ℕ → A) → xs ≡ ranged xs i 0 f
-unfolding ranged
-ranged-none xs i f = refl
+-- The invariant of every loop that fills 64 slots from i on: so far k of them are set, the others are as they were.
+abbrev pub Filling : {A : Type 0} → List A → ℕ → (ℕ → A) → List A → ℕ → Type 0
+Filling xs i f ys k = (k ≤ 64) × (length ys ≡ length xs) × (ys ≡ ranged xs i k f)
 
-pub ranged-next : {A : Type 0} (xs : List A) (i k : ℕ) (f : ℕ → A) {ys : List A} {v : A} → ys ≡ ranged xs i k f → v ≡ f k → set ys (i + k) v ≡ ranged xs i (k + 1) f
-unfolding ranged
-ranged-next xs i k f e d = rw (add-one k) (λ q. set (e q) (i + k) (d q))
+module _ {A : Type 0} (xs : List A) (i : ℕ) (f : ℕ → A) where
+  pub filling-none : Filling xs i f xs 0
+  unfolding ranged
+  filling-none = (omega arith, refl, refl)
+
+  pub filling-next : (ys : List A) (k : ℕ) {v : A} → Filling xs i f ys k → k < 64 → v ≡ f k → Filling xs i f (set ys (i + k) v) (k + 1)
+  unfolding ranged
+  filling-next ys k h l d = (omega arith, simp length-set (h .1), rw (add-one k) (λ q. set (h .2 q) (i + k) (d q)))
+
+  pub filling-all : (ys : List A) (k : ℕ) → Filling xs i f ys k → 64 ≤ k → ys ≡ ranged xs i 64 f
+  filling-all ys k h l = let e : k ≡ 64 = omega (arith, h .0) in rw e at (h .2)
 
 module _ (s : List ℕ) (c : Coding) (w : Inside) where
   pub length-run : (n : ℕ) → length (runOf s c w n) ≡ n

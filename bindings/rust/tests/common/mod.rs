@@ -42,11 +42,15 @@ pub fn digest(text: &str) -> u64 {
     text.bytes().fold(0xcbf29ce484222325, |d, byte| (d ^ u64::from(byte)).wrapping_mul(0x100000001b3))
 }
 
-/// Case A with bytes put in place of those at a position.
-pub fn a_with(at: usize, bytes: &[u8]) -> Vec<u8> {
-    let mut file = case_a();
+/// A file with bytes put in place of those at a position.
+fn put(mut file: Vec<u8>, at: usize, bytes: &[u8]) -> Vec<u8> {
     file[at..at + bytes.len()].copy_from_slice(bytes);
     file
+}
+
+/// Case A so changed.
+pub fn a_with(at: usize, bytes: &[u8]) -> Vec<u8> {
+    put(case_a(), at, bytes)
 }
 
 /// `half_active.vdb`, whose type ends in `_HalfFloat` and whose half entry is true, and the same with another entry in its place; with each how wide
@@ -55,16 +59,11 @@ pub fn half_entries() -> Vec<(&'static str, Vec<u8>, u32)> {
     let file = read("half_active.vdb");
     let name = b"is_saved_as_half_float";
     let at = file.windows(22).position(|bytes| bytes == name).unwrap();
-    let with = |at: usize, bytes: &[u8]| {
-        let mut file = file.clone();
-        file[at..at + bytes.len()].copy_from_slice(bytes);
-        file
-    };
     vec![
-        ("the entry", file.clone(), 2),
-        ("another name", with(at + 21, b"T"), 2),
-        ("another kind", with(at + 26, b"boot"), 2),
-        ("false", with(at + 34, b"\0"), 4),
+        ("another name", put(file.clone(), at + 21, b"T"), 2),
+        ("another kind", put(file.clone(), at + 26, b"boot"), 2),
+        ("false", put(file.clone(), at + 34, b"\0"), 4),
+        ("the entry", file, 2),
     ]
 }
 

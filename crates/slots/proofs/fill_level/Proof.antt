@@ -1,16 +1,13 @@
 -- The invariant: k slots have the level. The loop ends at 64.
 use borrow.Author.Needs.{needs}
-use mathlib.Core.Path.{_≡_, refl}
-use Prim.Native.Nat.{_-_, _≤_}
-use native.Mathlib.Omega.{arith}
-use lib.ListN.{length, length-set}
-use Rattle.slots.specs.Inner.{ranged}
-use Rattle.slots.proofs.Runs.{ranged-none, ranged-next}
+use mathlib.Core.Path.{refl}
+use Prim.Native.Nat.{_-_}
+use Rattle.slots.proofs.Runs.{Filling, filling-none, filling-next, filling-all}
 use Rattle.slots.proofs.fill_level.Statement.{statement}
 use Rattle.slots.proofs.fill_level.Tie as tie
 
 abbrev Inv-loop : tie.InvT-loop
-Inv-loop l slot level₀ k₀ level k = (k ≤ 64) × (length level ≡ length level₀) × (level ≡ ranged level₀ slot k (λ j. l))
+Inv-loop l slot level₀ k₀ level k = Filling level₀ slot (λ j. l) level k
 
 abbrev μ-loop : tie.MeasureT-loop
 μ-loop l slot level₀ k₀ level k = 64 - k
@@ -21,12 +18,12 @@ fill-level-spec =
     (tie.spec
     Inv-loop
     μ-loop
-    (λ c. (search needs, refl, ranged-none _ _ _))
+    (λ c. filling-none _ _ _)
     (λ c. search needs)
     (λ c. search needs)
     (λ c. search needs)
     (λ c. search needs)
     (λ c. search needs)
-    (λ c. let l = c .before .loop in (omega arith, simp length-set (l .inv .1), ranged-next _ _ _ _ (l .inv .2) refl))
+    (λ c. filling-next _ _ _ _ _ (c .before .loop .inv) (c .loop-test .taken) refl)
     (λ c. search needs)
-    (λ c. let e : c .before .loop .k ≡ 64 = omega arith in rw e at (c .before .loop .inv .2)))
+    (λ c. filling-all _ _ _ _ _ (c .before .loop .inv) (c .loop-test .left)))

@@ -1,17 +1,15 @@
 -- The invariant: k slots have the first k values, whose numbers are below the room. The loop ends at 64.
 use borrow.Author.Needs.{needs}
-use mathlib.Core.Path.{_≡_, refl}
-use Prim.Native.Nat.{ℕ, _+_, _-_, _≤_, _<_}
+use Prim.Native.Nat.{ℕ, _+_, _-_, _<_}
 use native.Mathlib.Omega.{arith}
-use lib.ListN.{length, length-set}
-use Rattle.slots.specs.Inner.{roomOf, valueAt, ranged}
+use Rattle.slots.specs.Inner.{roomOf, valueAt}
 use Rattle.slots.proofs.Laws.{in-room}
-use Rattle.slots.proofs.Runs.{ranged-none, ranged-next}
+use Rattle.slots.proofs.Runs.{Filling, filling-none, filling-next, filling-all}
 use Rattle.slots.proofs.fill_stored.Statement.{statement}
 use Rattle.slots.proofs.fill_stored.Tie as tie
 
 abbrev Inv-loop : tie.InvT-loop
-Inv-loop s c room w slot value₀ k₀ value k = (k ≤ 64) × (length value ≡ length value₀) × (value ≡ ranged value₀ slot k (valueAt s c w))
+Inv-loop s c room w slot value₀ k₀ value k = Filling value₀ slot (valueAt s c w) value k
 
 abbrev μ-loop : tie.MeasureT-loop
 μ-loop s c room w slot value₀ k₀ value k = 64 - k
@@ -30,7 +28,7 @@ fill-stored-spec =
     (tie.spec
     Inv-loop
     μ-loop
-    (λ c. (search needs, refl, ranged-none _ _ _))
+    (λ c. filling-none _ _ _)
     (λ c. search needs)
     (λ c. let p = start (c .before) .pre in omega (arith, p .0 .number, p .2, c .before .loop-test .taken))
     (λ c κs.
@@ -43,6 +41,6 @@ fill-stored-spec =
     (λ c. let t = c .before .before in omega (arith, t .loop-test .taken, t .before .loop .inv .1, start t .pre .3))
     (λ c. search needs)
     (λ c. search needs)
-    (λ c. let l = c .before .before .before .loop in (omega (arith, c .before .before .loop-test .taken), simp length-set (l .inv .1), ranged-next _ _ _ _ (l .inv .2) (c .stored-value .ensures)))
+    (λ c. let t = c .before .before in filling-next _ _ _ _ _ (t .before .loop .inv) (t .loop-test .taken) (c .stored-value .ensures))
     (λ c. search needs)
-    (λ c. let e : c .before .loop .k ≡ 64 = omega arith in rw e at (c .before .loop .inv .2)))
+    (λ c. filling-all _ _ _ _ _ (c .before .loop .inv) (c .loop-test .left)))
