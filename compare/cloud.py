@@ -117,6 +117,29 @@ def b(file=None, **grid):
     return cloud(220, Grid(**grid), **file or {})
 
 
+def number(n):
+    """What stands before a run, where the grid has a packing flag: minus the number of its bytes where they are stored raw."""
+    return struct.pack('<q', n)
+
+
+def a_numbered(flags, numbers=(0, 0, -4), child=4095, tiles=((), ()), value=u32(ONE), leaf=b'\0', **grid):
+    """A with numbers in its 5-node, in its 4-node and before its value, as OpenVDB writes it with flags 3: those of the nodes stand before
+    empty runs. Without a number where that is None. Places of both nodes may be tiles, with the leaf's value; `leaf` is its node byte with all that
+    stands before the number."""
+    fronts = [byte + (b'' if n is None else number(n)) for byte, n in zip((b'\0', b'\0', leaf), numbers)]
+    five, four = (front + value * len(active) for front, active in zip(fronts, tiles))
+    root = a_root(five=node(32768, [1057], tiles[0], five), four=node(4096, [child], tiles[1], four))
+    return a(flags=flags, roots=[root], block=a_block(stored=fronts[2] + value), **grid)
+
+
+def b_numbered(packed):
+    """B with numbers: none of its runs is empty."""
+    five, four, leaf = (number(-4 * count) for count in (32767, 4095, 512))
+    root = FIELD['root origin'] + FIELD['5-node, child mask'] + mask(32768, ()) + five + old(32767)
+    root += FIELD['4-node, child mask'] + mask(4096, ()) + four + old(4095) + A_LEAF
+    return b({'packed': packed}, roots=[root], block=a_block(None, struct.pack('<iiiB', -3848, 248, 4344, 1) + leaf + old(512, n74=ONE)))
+
+
 def crowded(length, step=32, middle=False):
     """64 grids whose names stand inside one another: each has `length` bytes and starts `step` bytes behind the one before. From the
     front they are the same until near their ends, or with `middle` until near their middle; at the end all but 32 bytes of a step are

@@ -1,12 +1,13 @@
 /*
  * Wuraiko: a proved reader of OpenVDB clouds, for C and C++. Link libvdb.a, which is for x86-64.
  *
- * Float grids of file versions 220 to 224, trees 5-4-3 of 32-bit floats or halves, values stored unpacked.
+ * Float grids of file versions 220 to 224, trees 5-4-3 of 32-bit floats or halves, values stored unpacked, also where a flag says that they may be
+ * packed.
  *
  * What holds of every function here
  *
  * - `file` and `file_len` are the whole file. Nothing is kept between calls, nothing is allocated, no file is opened: each call is given the bytes again.
- * - The result is 0, or the number of the check that refused (1 to 22, see the table at the end). After a refusal everything lent is as it was.
+ * - The result is 0, or the number of the check that refused (1 to 22, and 25; see the table at the end). After a refusal everything lent is as it was.
  * - Any bytes, names, numbers, lengths and words are allowed: each call answers after finitely many steps.
  * - A pointer with a length points to that many elements; every pointer is aligned for its type and is not NULL, also where the length is 0. What is lent
  *   for writing overlaps nothing else that is lent in the same call. Calls may run at the same time as long as what they write is not shared.
@@ -41,7 +42,7 @@ enum {
     VDB_FILE_VERSION,        /* 220 to 224 */
     VDB_FILE_LIBRARY_MAJOR,  /* the numbers of the library that wrote it */
     VDB_FILE_LIBRARY_MINOR,
-    VDB_FILE_PACKED,         /* 1 where versions 220 and 221 say so, else 0 */
+    VDB_FILE_PACKED,         /* 1 where versions 220 and 221 say that values may be packed, else 0 */
     VDB_FILE_IDENTITY_START, /* the identity's bytes */
     VDB_FILE_IDENTITY_LEN,
     VDB_FILE_METADATA,       /* where the file's metadata starts */
@@ -65,7 +66,7 @@ enum {
     VDB_GRID_POSITION,       /* where the grid starts, where its blocks start, and where the next descriptor stands */
     VDB_GRID_BLOCK_POSITION,
     VDB_GRID_END_POSITION,
-    VDB_GRID_FLAGS,          /* 0x1 and 0x4: packed; 0x2: only active values are stored */
+    VDB_GRID_FLAGS,          /* 0x1 and 0x4: values may be packed, which opening the grid finds out; 0x2: only active values are stored */
     VDB_GRID_HALF,           /* the metadata entry is_saved_as_half_float: 2 where it is true, 1 where false, 0 where there is none or its kind is another */
     VDB_GRID_METADATA,       /* where the grid's metadata starts, and where what follows it starts */
     VDB_GRID_TREE,
@@ -175,10 +176,11 @@ uint32_t vdb_leaf_origins_numbered(const uint8_t *file, size_t file_len, uint32_
                                    int32_t *z, size_t z_len);
 
 /*
- * The checks, in the order of their numbers: 1 over 2,147,483,647 bytes; 2 a field past the end; 3 magic; 4 version; 5 offsets byte; 6 packed grid;
+ * The checks, in the order of their numbers: 1 over 2,147,483,647 bytes; 2 a field past the end; 3 magic; 4 version; 5 offsets byte; 6 packed values;
  * 7 flags above 7; 8 over 64 grids; 9 a position past the end; 10 repeated grid name; 11 no such grid or entry; 12 grid type; 13 parent; 14 map name;
  * 15 tree buffer count; 16 over 256 roots; 17 root origin; 18 child and value bit at one place; 19 node byte; 20 leaf block; 21 no such leaf, or
- * number of slots; 22 place of a walk.
+ * number of slots; 22 place of a walk; 25 the number before a run of values is not that of its bytes. 6 and 25 are found where the values are read: a
+ * grid with a flag for packing opens where all of its values are stored as they are.
  */
 
 #ifdef __cplusplus

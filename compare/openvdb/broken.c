@@ -83,17 +83,25 @@ static uint32_t opened(uint32_t k, uint64_t *out)
     if (broken(12) && k == 0) out[VDB_OPENED_LEAF_COUNT]--;
     if (broken(13) && k == 0 && out[VDB_OPENED_MAP] == VDB_SCALE_TRANSLATE) memmove(out + VDB_OPENED_DOUBLES, out + VDB_OPENED_DOUBLES + 3, 15 * 8);
     if (broken(14) && k == 14) return 12;                                  /* another refusal */
+    if (broken(28) && k == 6) return 25;                                   /* a packed run taken for a raw one of another length */
     return k;
 }
 
+/* Whether the grid opened last, whose leaves and records are asked for next, has a packing flag. */
+static int flagged;
+
 uint32_t __wrap_vdb_open_grid_numbered(const uint8_t *file, size_t file_len, uint32_t n, uint64_t *out, uint64_t *place)
 {
-    return opened(__real_vdb_open_grid_numbered(file, file_len, n, out, place), out);
+    uint64_t words[VDB_GRID_WORDS];
+    uint32_t k = opened(__real_vdb_open_grid_numbered(file, file_len, n, out, place), out);
+    flagged = __real_vdb_grid_numbered(file, file_len, n, words) == 0 && (words[VDB_GRID_FLAGS] & 5) != 0;
+    return broken(29) && k == 0 && flagged ? 6 : k;                        /* refused by its flags alone */
 }
 
 uint32_t __wrap_vdb_open_grid_named(const uint8_t *file, size_t file_len, const uint8_t *name, size_t name_len, uint64_t *out, uint64_t *place)
 {
-    return opened(__real_vdb_open_grid_named(file, file_len, name, name_len, out, place), out);
+    uint32_t k = opened(__real_vdb_open_grid_named(file, file_len, name, name_len, out, place), out);
+    return broken(29) && k == 0 && flagged ? 6 : k;
 }
 
 uint32_t __wrap_vdb_fill_leaves_numbered(const uint8_t *file, size_t file_len, uint32_t n, uint64_t first, uint32_t *slots, size_t slots_len)
@@ -108,6 +116,7 @@ uint32_t __wrap_vdb_fill_leaves_numbered(const uint8_t *file, size_t file_len, u
         memcpy(slots + 512, kept, sizeof kept);
     }
     for (size_t i = 0; broken(17) && i < slots_len; i++) slots[i] += slots[i] == 0x80000000 ? 0x80000000 : 0; /* the sign of zero is lost */
+    if (broken(30) && flagged) memmove(slots, slots + 2, 510 * sizeof *slots); /* a run taken from eight bytes behind its start */
     return k;
 }
 
@@ -131,7 +140,7 @@ uint32_t __wrap_vdb_walk(WALK)
     uint64_t last = counts[VDB_FILLED] - 1, tile = 0;
     if (k != 0 || counts[VDB_FILLED] < 2) return k;
     while (tile < last && level[tile] == 0) tile++;
-    if (broken(18)) value[last] ^= 1;
+    if (broken(18) || (broken(31) && flagged)) value[last] ^= 1;
     if (broken(19)) z[last] ^= 1;
     if (broken(20) && level[tile] > 0) level[tile]--;
     if (broken(21)) x[last] = x[last - 1], y[last] = y[last - 1], z[last] = z[last - 1], level[last] = level[last - 1], value[last] = value[last - 1];

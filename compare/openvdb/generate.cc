@@ -3,7 +3,8 @@
 //     generate DIRECTORY COUNT SEED [MEGABYTES ..]
 //
 // COUNT clouds of 10 KB to 10 MB, and one of about each of MEGABYTES. A cloud has one to five grids, and half of those up to 10 MB have one more, most
-// often one that the reader must refuse. Two runs with one seed give equal files. Signalling NaNs are left out where values are saved as halves, and so are texts that are not UTF-8:
+// often one that the reader must refuse. Up to 10 MB many grids have a packing flag: with raw runs alone, or with packed ones, so that the reader must
+// refuse them. Two runs with one seed give equal files. Signalling NaNs are left out where values are saved as halves, and so are texts that are not UTF-8:
 // the first is a matter of docs/DIFFERENCES.md, section 5, the second one of the Rust.
 #include "archive.h"
 
@@ -21,6 +22,7 @@
 #include <functional>
 #include <iostream>
 #include <random>
+#include <set>
 #include <sstream>
 
 namespace {
@@ -60,6 +62,7 @@ struct Form {
     bool half;
     uint32_t flags;
     double bytes;
+    bool raw = false; // with a packing flag, and no run that is packed
     int width() const { return half ? 2 : 4; }
     double root() const { return flags & ACTIVE ? 10e3 : 10e3 + 38e3 * width(); } // what a root takes, with a 4-node
     bool small() const { return bytes < 30 * root(); }
@@ -72,15 +75,21 @@ float widened(uint16_t bits)
     return float(value);
 }
 
+// A value with noise in every bit.
+float noise_value(Draw& draw, bool half)
+{
+    if (!half) return pattern(uint32_t(draw.bits()));
+    const uint16_t bits = uint16_t(draw.bits());
+    return widened((bits & 0x7fff) > 0x7c00 ? bits | 0x0200 : bits);
+}
+
 // A value of any pattern.
 float any_value(Draw& draw, bool half)
 {
     static const std::vector<uint32_t> floats = {0, 0x80000000, 1, 0x807fffff, 0x00800000, 0x7f7fffff, 0x7f800000, 0xff800000, 0x7fc12345, 0xff800001};
     static const std::vector<uint32_t> halves = {0, 0x8000, 1, 0x83ff, 0x0400, 0x7bff, 0x7c00, 0xfc00, 0x7e01, 0xfe00};
-    const bool special = draw.once_in(4);
-    if (!half) return pattern(special ? draw.of(floats) : uint32_t(draw.bits()));
-    const uint16_t bits = uint16_t(special ? draw.of(halves) : draw.bits());
-    return widened((bits & 0x7fff) > 0x7c00 ? bits | 0x0200 : bits);
+    if (!draw.once_in(4)) return noise_value(draw, half);
+    return half ? widened(uint16_t(draw.of(halves))) : pattern(draw.of(floats));
 }
 
 double any_double(Draw& draw)
@@ -296,6 +305,48 @@ void extras(Draw& draw, FloatTree& tree, const Form& form)
     if (draw.once_in(4)) openvdb::tools::prune(tree);
 }
 
+// ---- Raw runs ----
+
+// Whether all places of a node are stored: it has more than two inactive values, or one that is no number and so equal to none.
+template <class Node> bool all_stored(const Node& node)
+{
+    std::set<float> off;
+    for (auto place = node.cbeginValueAll(); place; ++place) {
+        if (place.isValueOn()) continue;
+        if (std::isnan(*place) || (off.insert(*place).second && off.size() > 2)) return true;
+    }
+    return false;
+}
+
+template <class Node> void make_noise(Draw& draw, Node& node, bool every, bool half)
+{
+    for (auto place = node.beginValueAll(); place; ++place) {
+        if (every || place.isValueOn()) place.setValue(noise_value(draw, half));
+    }
+}
+
+// A node whose children may be many must not store all its places: zeros stand for the children there, and they would be packed.
+template <class Node> void make_noise_between(Draw& draw, Node& node, bool every, bool half, float background)
+{
+    const bool fewer = !every && all_stored(node);
+    for (auto place = node.beginValueAll(); place && fewer; ++place) {
+        if (!place.isValueOn()) place.setValue(background);
+    }
+    make_noise(draw, node, every, half);
+}
+
+// Gives each stored value noise in every bit, so that no run is packed.
+void unpackable(Draw& draw, FloatTree& tree, bool every, bool half)
+{
+    for (auto root = tree.root().beginChildOn(); root; ++root) {
+        make_noise_between(draw, *root, every, half, tree.background());
+        for (auto node = root->beginChildOn(); node; ++node) {
+            make_noise_between(draw, *node, every, half, tree.background());
+            for (auto leaf = node->beginChildOn(); leaf; ++leaf) make_noise(draw, *leaf, every || all_stored(*leaf), half);
+        }
+    }
+}
+
 // ---- Grids ----
 
 // Whether a tree is still too small: another piece takes at least a root, or eight where it lies across roots. A cloud with more than 256 roots would be
@@ -344,6 +395,23 @@ FloatGrid::Ptr patterns(Draw& draw, const Form& form)
 {
     FloatGrid::Ptr grid = FloatGrid::create(draw.once_in(2) ? 3.0f : any_value(draw, form.half));
     for (int n = 0; wanting(grid->tree(), form, n); n++) random_nodes(draw, grid->tree(), piece(draw, grid->tree(), form), form);
+    return grid;
+}
+
+// Few children in each node, so that it can store all its places and none is packed.
+FloatGrid::Ptr scattered(Draw& draw, const Form& form)
+{
+    FloatGrid::Ptr grid = FloatGrid::create(any_value(draw, form.half));
+    auto inside = [&](const Coord& from, int step, int side) {
+        return from.offsetBy(step * draw.below(side), step * draw.below(side), step * draw.below(side));
+    };
+    for (int n = 0; wanting(grid->tree(), form, n); n++) {
+        const Coord root = root_site(draw);
+        for (int nodes = 1 + draw.below(4); nodes > 0; nodes--) {
+            const Coord node = inside(root, 128, 32);
+            for (int leaves = draw.below(6); leaves >= 0; leaves--) random_leaf(draw, grid->tree(), inside(node, 8, 16), form.half);
+        }
+    }
     return grid;
 }
 
@@ -444,8 +512,10 @@ void dress(Draw& draw, GridBase& grid, const std::string& name)
 GridBase::Ptr accepted(Draw& draw, const Form& form)
 {
     static const std::vector<std::function<FloatGrid::Ptr(Draw&, const Form&)>> kinds = {fog, fog, level_set, patterns};
-    FloatGrid::Ptr grid = draw.of(kinds)(draw, form);
+    const bool every = form.raw && (!(form.flags & ACTIVE) || (form.bytes > 3e5 && draw.once_in(4))); // all places are stored, and noise
+    FloatGrid::Ptr grid = every ? scattered(draw, form) : draw.of(kinds)(draw, form);
     extras(draw, grid->tree(), form);
+    if (form.raw) unpackable(draw, grid->tree(), every, form.half);
     if (form.half || draw.once_in(2)) grid->setSaveFloatAsHalf(form.half);
     return grid;
 }
@@ -458,15 +528,18 @@ Part refused(Draw& draw, const Part& other)
     static const std::vector<uint32_t> packed = {1, 3, 4, 5, 6, 7};
     const std::string name = "refused " + any_text(draw);
     FloatGrid::Ptr grid = FloatGrid::create(0.5f);
-    Part part{grid, draw.once_in(4) ? draw.of(packed) : other.flags, name, ""};
+    Part part{grid, draw.once_in(4) ? draw.of(packed) : other.flags & ACTIVE, name, ""};
     const int reason = draw.below(6);
     if (reason == 0) part.grid = GridBase::createGrid("Tree_" + draw.of(types) + "_5_4_3");
     if (reason == 1 && !other.name.empty()) part = {other.grid->copyGrid(), other.flags, name, other.name}; // without a name it would be no parent
     dress(draw, *part.grid, name);
     if (reason == 2) grid->setTransform(Transform::createLinearTransform(openvdb::math::Mat4d(1, 2, 0, 0, 0, 1, 0, 0, 0, 0, 1, 0, 4, 5, 6, 1)));
     if (reason == 3) grid->setTransform(Transform::createFrustumTransform(openvdb::BBoxd(Vec3d(0.0), Vec3d(100.0)), 0.5, 10.0));
-    if (reason == 4) part.flags = draw.of(packed);
-    const int roots = reason == 5 && other.flags == ACTIVE ? 257 : 0; // with flags 0 they would take 40 MB
+    if (reason == 4) { // one value for all places of a leaf
+        part.flags = draw.of(packed);
+        grid->tree().addLeaf(new Leaf(site(draw, 8) & ~7, any_value(draw, false), true));
+    }
+    const int roots = reason == 5 && other.flags & ACTIVE ? 257 : 0; // with flags 0 they would take 40 MB
     for (int n = 0; n < roots; n++) grid->tree().setValue(Coord(4096 * (n - 128), 0, 0), 1.0f);
     return part;
 }
@@ -481,19 +554,31 @@ std::string other_name(const std::vector<Part>& parts, const std::string& name)
     return same == 0 ? name : openvdb::io::GridDescriptor::addSuffix(name, same);
 }
 
+// A packing flag, or both, or none. By io::File only zipping leaves runs raw.
+uint32_t packing(Draw& draw, bool alike)
+{
+    static const std::vector<uint32_t> of_file = {0, 0, 0, 0, 0, ZIP, ZIP, ZIP, BLOSC}, of_grid = {0, 0, ZIP, BLOSC, ZIP | BLOSC};
+    return draw.of(alike ? of_file : of_grid);
+}
+
 std::vector<Part> parts_of(Draw& draw, double bytes, bool alike)
 {
     static const std::vector<std::string> names = {"density", "temperature", "", "surface", "heat \xc3\xa9t\xc3\xa9"};
     const int count = bytes < 40e3 ? 1 : 1 + draw.below(5);
     const bool plain = draw.once_in(3);
+    const uint32_t packed = packing(draw, alike);
     std::vector<Part> parts;
     for (int n = 0; n < count; n++) {
         Form form{draw.once_in(2), ACTIVE, bytes / count};
-        if (form.bytes > 3e5 && (alike ? plain : draw.once_in(2))) form.flags = PLAIN;
+        if (form.bytes > 2e5 && (alike ? plain : draw.once_in(2))) form.flags = PLAIN;
+        if (bytes <= 1e7) form.flags |= alike ? packed : packing(draw, alike);
+        form.raw = form.flags & (ZIP | BLOSC) && !draw.once_in(4) && !(alike && form.flags & BLOSC);
         GridBase::Ptr grid = accepted(draw, form);
+        // The library zips neither fog nor level sets. By io::File they may stay what they are, and lose the flag.
+        if (form.flags & (ZIP | BLOSC) && !(alike && draw.once_in(3))) grid->setGridClass(openvdb::GRID_UNKNOWN);
         const std::string name = draw.of(names);
         dress(draw, *grid, name);
-        parts.push_back({grid, form.flags, other_name(parts, name), ""});
+        parts.push_back({grid, form.flags, other_name(parts, name), "", form.raw && !alike});
     }
     if (bytes <= 1e7 && draw.once_in(2)) parts.push_back(refused(draw, parts[0]));
     return parts;

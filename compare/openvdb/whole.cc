@@ -304,28 +304,37 @@ void tree_of(const Bytes& bytes, const RawGrid& raw, const FloatGrid& grid, uint
     records(bytes, grid.tree(), order, place, count);
 }
 
+// Each call that opens the grid refuses it.
+void refused_grid(const Bytes& bytes, const RawGrid& raw, uint32_t number)
+{
+    uint64_t ours[VDB_OPENED_WORDS], place[VDB_PLACE_WORDS];
+    std::vector<uint32_t> slots(512);
+    const uint32_t refused = uint32_t(raw.refused);
+    agree(vdb_open_grid_numbered(bytes.at, bytes.length, number, ours, place) == refused, "ours: number of a refusal");
+    agree(vdb_open_grid_named(bytes.at, bytes.length, lent(raw.name.bytes), raw.name.length, ours, place) == refused, "ours: number of a refusal by name");
+    agree(vdb_fill_leaf_numbered(bytes.at, bytes.length, number, 0, slots.data(), 512) == refused, "ours: number of a refusal to fill a leaf");
+}
+
 void whole_grid(const Bytes& bytes, Parse& parse, openvdb::io::File& file, uint32_t number)
 {
     RawGrid& raw = parse.grids[number];
+    parse.open(raw);
     const openvdb::GridBase::Ptr grid = read_grid(file, raw, parse.version);
     agree_metadata(raw.metadata, *grid, "file_delayed_load");
     descriptor(bytes, raw, number);
     grid_entries(bytes, raw, number);
     counts.grids++;
-    const uint32_t refused = uint32_t(refusal(raw, *grid));
-    if (refused == 0) {
-        parse.tree(raw);
+    if (raw.refused == 0) {
         counts.maps[raw.map.bytes]++;
         counts.flags[raw.flags]++;
         counts.halves += raw.half;
         tree_of(bytes, raw, static_cast<const FloatGrid&>(*grid), number);
-        raw.leaves.clear();
-        raw.roots.clear();
     } else {
-        uint64_t ours[VDB_OPENED_WORDS], place[VDB_PLACE_WORDS];
-        agree(vdb_open_grid_numbered(bytes.at, bytes.length, number, ours, place) == refused, "ours: number of a refusal");
-        counts.refused[refused]++;
+        refused_grid(bytes, raw, number);
+        counts.refused[uint32_t(raw.refused)]++;
     }
+    raw.leaves.clear();
+    raw.roots.clear();
 }
 
 void whole_file(const std::string& path)

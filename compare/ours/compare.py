@@ -109,13 +109,14 @@ def apart_from_listed(dump, rust, paths, counts):
         theirs = rows.dumped(rust, path, memory=12 << 30)
         version = int((re.search(r'^version (\d+)', text, flags=re.MULTILINE) or [0, 0])[1])
         *rest, common = without_common(theirs, text)
-        without = listed.dropped(canonical.items(rest[1]))
+        sides = [canonical.items(side) for side in rest]
+        without = listed.dropped(sides[1])
         compared, found = canonical.differences(*rest, without)
         counts.dropped += len(without)
         counts.add(text, compared)
         counts.add_kinds(kinds(first_words(common)))
         for name, one, other in found:
-            row = listed.row(name, one, other, version)
+            row = listed.row(name, one, other, version, *sides)
             if row:
                 counts.rows[row] = counts.rows.get(row, 0) + 1
             else:

@@ -30,11 +30,12 @@ def main(dump, describe, *paths):
         rust = rows.dumped(dump, path)
         document, openvdb = (printed(sys.executable, os.path.join(ABOVE, 'by_openvdb.py'), describe, path, *side)
                              for side in (['--document'], []))
-        version = int(canonical.items(document).get((None, 'version'), 0))
+        sides = canonical.items(rust), canonical.items(document)
+        version = int(sides[1].get((None, 'version'), 0))
         counts, found = canonical.differences(rust, document)
         seen = {}
         for name, one, other in found:
-            row = listed.row(name, one, other, version)
+            row = listed.row(name, one, other, version, *sides)
             strange += row is None
             seen[row] = seen.get(row, 0) + 1
             if row is None or seen[row] <= 2:

@@ -11,7 +11,9 @@
 #include <vector>
 
 const uint32_t PLAIN = openvdb::io::COMPRESS_NONE;         // flags 0
+const uint32_t ZIP = openvdb::io::COMPRESS_ZIP;            // flag 0x1
 const uint32_t ACTIVE = openvdb::io::COMPRESS_ACTIVE_MASK; // flags 2
+const uint32_t BLOSC = openvdb::io::COMPRESS_BLOSC;        // flag 0x4
 
 inline float pattern(uint32_t bits) {
     float value;
@@ -30,6 +32,10 @@ inline void set_identity(const std::string& path, int number) {
 
 // io::File gives all grids of a file the same flags. This archive makes the library's own calls for
 // a header and for each grid, but sets the flags, the name and the parent before each grid.
+//
+// With Blosc the library packs every run of values, an empty one of floats too. When it zips, it
+// leaves a run raw that would not get shorter; and raw runs are the same with both. So a grid of raw
+// runs is written with flag 0x1, and gets its flags afterwards.
 class MixedArchive : public openvdb::io::Archive {
 public:
     struct Part {
@@ -37,6 +43,7 @@ public:
         uint32_t flags;
         std::string name; // the descriptor's name
         std::string parent; // empty, or the descriptor's name whose tree is shared
+        bool raw = false; // of no class, with values that packing does not make shorter
     };
     void save(const std::string& path, const std::vector<Part>& parts,
               const openvdb::MetaMap& meta) {
@@ -46,7 +53,7 @@ public:
         const int32_t count = int32_t(parts.size());
         os.write(reinterpret_cast<const char*>(&count), sizeof count);
         for (const Part& part : parts) {
-            this->setCompression(part.flags);
+            this->setCompression(part.raw ? (part.flags & ACTIVE) | ZIP : part.flags);
             part.grid->addStatsMetadata();
             part.grid->insertMeta(
                 openvdb::GridBase::META_FILE_COMPRESSION,
@@ -55,10 +62,19 @@ public:
                                            part.grid->saveFloatAsHalf());
             if (part.parent.empty()) {
                 this->writeGrid(gd, part.grid, os, /*seekable=*/true);
+                if (part.raw) set_flags(os, gd, part.flags);
             } else {
                 gd.setInstanceParentName(part.parent);
                 this->writeGridInstance(gd, part.grid, os, /*seekable=*/true);
             }
         }
+    }
+
+private:
+    // The flags are the first thing at the grid position.
+    static void set_flags(std::ostream& os, const openvdb::io::GridDescriptor& gd, uint32_t flags) {
+        os.seekp(gd.getGridPos());
+        os.write(reinterpret_cast<const char*>(&flags), sizeof flags);
+        os.seekp(0, std::ios::end);
     }
 };

@@ -215,7 +215,6 @@ void grid_tree(RawGrid& raw, const FloatGrid& grid, Mode mode, const std::set<si
     std::vector<Record> records;
     std::vector<const Leaf*> leaves;
     agree(bits_of(grid.background()) == raw.background, "background");
-    agree(grid.tree().root().childCount() == raw.roots.size(), "roots");
     agree(grid.tree().root().getTableSize() == raw.roots.size() + raw.tiles, "root tiles");
     walk(raw, grid.tree(), records, leaves);
     count(raw, grid.tree(), records, leaves);
@@ -286,13 +285,12 @@ void describe(const std::string& path, Mode mode, long only, const std::set<size
     for (size_t number = 0; number < parse.grids.size(); ++number) {
         RawGrid& raw = parse.grids[number];
         if (mode == Mode::listing ? number != 0 : only >= 0 && long(number) != only) continue;
+        parse.open(raw);
         const openvdb::GridBase::Ptr grid = read_grid(file, raw, parse.version);
-        const int refused = refusal(raw, *grid);
-        if (refused == 0) parse.tree(raw);
         if (mode == Mode::all) print_grid(raw, *grid, number);
         if (mode == Mode::openvdb || mode == Mode::document) std::printf("grid %zu\n", number);
-        if (refused != 0) {
-            std::printf("refused %d\n", refused);
+        if (raw.refused != 0) {
+            std::printf("refused %d\n", raw.refused);
         } else {
             grid_tree(raw, *openvdb::gridConstPtrCast<FloatGrid>(grid), mode, chosen);
         }

@@ -6,8 +6,9 @@
 OpenVDB 10 reads these versions but does not write them. 222 and 223 have the layout of 224. In 220
 and 221 the header has a packed byte, a grid has no flags, a node stores one value for each place
 without a child, and a leaf block has origin, buffer byte and 512 values. Inactive places get the
-values that OpenVDB gives them in the version 224 file. All grids must be ones the reader accepts.
-`describe` shows that OpenVDB reads the result as meant.
+values that OpenVDB gives them in the version 224 file. Where the grids have flag 0x1 the packed byte
+is 1, and minus its length stands before each run, which is raw. All grids must be ones the reader
+accepts, and alike in that flag. `describe` shows that OpenVDB reads the result as meant.
 """
 import struct
 import sys
@@ -20,8 +21,10 @@ NARROW = {layout.widen(h): h for h in range(65536)}
 def stored(grid, values, child):
     kept = [value for p, value in enumerate(values) if not (child and child[p])]
     if grid.width == 2:
-        return struct.pack('<%dH' % len(kept), *(NARROW[value] for value in kept))
-    return struct.pack('<%dI' % len(kept), *kept)
+        run = struct.pack('<%dH' % len(kept), *(NARROW[value] for value in kept))
+    else:
+        run = struct.pack('<%dI' % len(kept), *kept)
+    return struct.pack('<q', -len(run)) + run if grid.flags & 1 else run
 
 
 def mask(bits):
@@ -61,7 +64,8 @@ def downgrade(data, version):
     file = layout.File(data)
     # The header ends where the first descriptor starts, four bytes of length before its name.
     first = int(file.grids[0].lines[1].split()[1]) - 4
-    result = data[:8] + struct.pack('<I', version) + data[12:21] + b'\0' + data[21:first]
+    packed = file.grids[0].flags & 1
+    result = data[:8] + struct.pack('<I', version) + data[12:21] + bytes([packed]) + data[21:first]
     for grid in file.grids:
         head, blocks = grid_parts(data, grid)
         result += text(grid.name) + text(grid.type) + text(grid.parent)

@@ -182,8 +182,6 @@ class Grid:
             raise Refused(12)
         if self.parent:
             raise Refused(13)
-        if self.flags & 5:
-            raise Refused(6)
         if not self.accepted_map:
             raise Refused(14)
         self.topology()
@@ -271,6 +269,13 @@ class Grid:
                 [pair[selected[p]] if values[p] is None else values[p] for p in range(places)])
 
     def run(self, count):
+        """The stored values. With a packing flag their length stands before them (request N3)."""
+        if self.flags & 5 and (count > 0 or self.width == 4):
+            length = self.reader.number('q')
+            if length > 0:
+                raise Refused(6)
+            if length != -self.width * count:
+                raise Refused(25)
         data = self.reader.take(self.width * count)
         if self.width == 4:
             return list(struct.unpack('<%dI' % count, data))

@@ -2,8 +2,9 @@
 // compare/openvdb/whole.cc.
 //
 // The parse (struct Parse) shares nothing with the reader. It has what the library does not tell:
-// where things start, flags, node bytes, the file's order of grids and roots, and what an inactive
-// place holds by document 01. The two are compared wherever both know something: `agree` throws.
+// where things start, flags, node bytes, whether a run is packed, the file's order of grids and
+// roots, and what an inactive place holds by document 01. The two are compared wherever both know
+// something: `agree` throws.
 #pragma once
 
 #include <openvdb/openvdb.h>
@@ -105,9 +106,11 @@ struct RawGrid {
     size_t follows = 0; // where the transform starts
     Text map;
     bool half = false;
-    // Of an accepted grid only:
+    int refused = 0; // the number with which opening it is refused, 0 if it is accepted
+    // Of a grid whose descriptor and map are accepted only:
     std::vector<uint64_t> doubles;
-    uint32_t background = 0, tiles = 0, active_tiles = 0;
+    uint32_t background = 0, tiles = 0, active_tiles = 0, root_count = 0;
+    bool packed = false; // a run is
     std::vector<RawRoot> roots;
     std::vector<RawLeaf> leaves;
 };
@@ -216,13 +219,23 @@ struct Parse {
         at = grid.end;
     }
 
-    // The number with which opening the grid is refused, 0 if it is accepted, as far as descriptor
-    // and map tell. Only the reasons that occur in files written by OpenVDB.
-    static int refusal(const RawGrid& grid) {
+    // Finds out with which number opening the grid is refused, and parses its tree if descriptor and
+    // map are accepted. Only the reasons that occur in files written by OpenVDB.
+    void open(RawGrid& grid) {
+        grid.refused = by_descriptor(grid);
+        if (grid.refused != 0) return;
+        head(grid);
+        if (grid.root_count > 256) {
+            grid.refused = 16;
+            return;
+        }
+        tree(grid);
+        if (grid.packed) grid.refused = 6;
+    }
+    static int by_descriptor(const RawGrid& grid) {
         const std::string plain = "Tree_float_5_4_3";
         if (grid.type.bytes != plain && grid.type.bytes != plain + "_HalfFloat") return 12;
         if (!grid.parent.bytes.empty()) return 13;
-        if (grid.flags & 5) return 6;
         return vectors(grid.map.bytes) ? 0 : 14;
     }
     static size_t vectors(const std::string& map) {
@@ -239,15 +252,35 @@ struct Parse {
         return bits_of(float(bits));
     }
 
+    // A run of stored values. With a packing flag its length stands before it, except before no
+    // halves: minus what the values take, or a positive one where they are packed. These are passed
+    // over, so that the rest of the grid can be followed, and zeros stand for them.
+    std::vector<uint32_t> run(RawGrid& grid, size_t count) {
+        std::vector<uint32_t> values(count);
+        if ((grid.flags & 5) && !(grid.half && count == 0)) {
+            const int64_t length = int64_t(number(8));
+            if (length > 0) {
+                bytes(size_t(length));
+                grid.packed = true;
+                return values;
+            }
+            agree(length == -int64_t(count * (grid.half ? 2 : 4)), "length of a raw run");
+        }
+        for (uint32_t& one : values) one = value(grid.half);
+        return values;
+    }
+
     // The stored values of a node. `child` is empty for a leaf.
-    Stored stored(const RawGrid& grid, const Mask& active, const Mask& child) {
+    Stored stored(RawGrid& grid, const Mask& active, const Mask& child) {
         const size_t places = active.size();
         const uint32_t sign = 0x80000000;
         Stored result;
         if (version < 222) {
+            const std::vector<uint32_t> values = run(grid, places - ones(child));
+            auto next = values.begin();
             for (size_t p = 0; p < places; ++p) {
                 const bool skip = !child.empty() && child[p];
-                result.document.push_back(skip ? 0 : value(grid.half));
+                result.document.push_back(skip ? 0 : *next++);
             }
             result.openvdb = result.document;
             return result;
@@ -265,9 +298,11 @@ struct Parse {
             reads_first ? first : byte == 0 ? grid.background : grid.background ^ sign;
         const uint32_t own_second = byte == 5 ? second : grid.background;
         const bool every = !(grid.flags & 2) || byte == 6;
+        const std::vector<uint32_t> values = run(grid, every ? places : ones(active));
+        auto next = values.begin();
         for (size_t p = 0; p < places; ++p) {
             if (every || active[p]) {
-                result.document.push_back(value(grid.half));
+                result.document.push_back(*next++);
                 result.openvdb.push_back(result.document.back());
             } else {
                 result.document.push_back(selected[p] ? second : first);
@@ -282,19 +317,23 @@ struct Parse {
         return origin.offsetBy(x * step, y * step, z * step);
     }
 
-    // Transform, topology and blocks of an accepted grid.
-    void tree(RawGrid& grid) {
+    // Transform, background and counts.
+    void head(RawGrid& grid) {
         at = grid.map.start + grid.map.length;
         for (size_t n = 0; n < 3 * vectors(grid.map.bytes); ++n) grid.doubles.push_back(number(8));
         agree(u32() == 1, "buffer count");
         grid.background = u32();
         grid.tiles = u32();
-        const uint32_t roots = u32();
+        grid.root_count = u32();
+    }
+
+    // The rest of the topology, and the blocks.
+    void tree(RawGrid& grid) {
         for (uint32_t n = 0; n < grid.tiles; ++n) {
             at += 16;
             if (number(1)) ++grid.active_tiles;
         }
-        for (uint32_t n = 0; n < roots; ++n) {
+        for (uint32_t n = 0; n < grid.root_count; ++n) {
             RawRoot root;
             root.origin = coord();
             root.child = mask(32768);
@@ -395,7 +434,11 @@ inline void agree_header(const Parse& parse, const openvdb::io::File& file) {
     agree(TestFile::descriptors(file).size() == parse.count, "number of grids");
 }
 
-// Reads a grid, after its descriptor was compared with the parse.
+inline uint32_t roots_of(const openvdb::GridBase& grid) {
+    return static_cast<const FloatGrid&>(grid).tree().root().childCount();
+}
+
+// Reads a grid that the parse has opened, after its descriptor was compared with the parse.
 inline openvdb::GridBase::Ptr read_grid(openvdb::io::File& file, const RawGrid& raw,
                                         uint32_t version) {
     const openvdb::io::File::NameMap& descriptors = TestFile::descriptors(file);
@@ -413,8 +456,9 @@ inline openvdb::GridBase::Ptr read_grid(openvdb::io::File& file, const RawGrid& 
     // Of a refused grid no value is asked, and the library may not be able to read one: Blender
     // writes points with a type of attribute that the library does not register.
     const openvdb::Name name = openvdb::io::GridDescriptor::nameAsString(raw.name.bytes);
-    const openvdb::GridBase::Ptr grid =
-        Parse::refusal(raw) == 0 ? file.readGrid(name) : file.readGridMetadata(name);
+    const bool whole = raw.refused == 0 || raw.refused == 16;
+    const openvdb::GridBase::Ptr grid = whole ? file.readGrid(name) : file.readGridMetadata(name);
+    agree(!whole || roots_of(*grid) == raw.root_count, "number of roots");
     agree(grid->saveFloatAsHalf() == raw.half, "half");
     // The library tells the flags only in words, set when the version 224 file was written.
     const openvdb::Metadata::Ptr words = (*grid)["file_compression"];
@@ -422,12 +466,4 @@ inline openvdb::GridBase::Ptr read_grid(openvdb::io::File& file, const RawGrid& 
     agree(!words || version < 222 || words->str() == expected, "flags");
     agree(grid->transform().baseMap()->type() == raw.map.bytes, "map");
     return grid;
-}
-
-// The number with which opening the grid is refused, 0 if it is accepted. The library counts the
-// roots; the parse has the other reasons.
-inline int refusal(const RawGrid& raw, const openvdb::GridBase& grid) {
-    const int found = Parse::refusal(raw);
-    if (found != 0) return found;
-    return static_cast<const FloatGrid&>(grid).tree().root().childCount() > 256 ? 16 : 0;
 }

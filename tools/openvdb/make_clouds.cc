@@ -4,7 +4,7 @@
 //
 // Every tree is Tree_float_5_4_3 unless the cloud is there to be refused. OpenVDB draws 36 random
 // identity bytes for each file; they are set to a fixed text afterwards (set_identity), so that
-// two runs give equal files. No other byte is touched.
+// two runs give equal files. No other byte is touched but flags 6 and 7 of raw runs (archive.h).
 
 #include "archive.h"
 
@@ -13,6 +13,7 @@
 
 #include <cmath>
 #include <iostream>
+#include <random>
 
 namespace {
 
@@ -71,6 +72,16 @@ void inactive(Leaf* leaf, const std::vector<float>& values) {
     for (openvdb::Index p = 0; p < Leaf::SIZE; ++p) {
         if (!leaf->isValueOn(p)) leaf->setValueOff(p, values[n++ % values.size()]);
     }
+}
+
+// The inactive values that make OpenVDB choose each of the forms 0 to 6, where the background is 3.
+const std::vector<std::vector<float>> FILLS = {
+    {3.0f}, {-3.0f}, {7.5f}, {3.0f, -3.0f}, {3.0f, 0.1f}, {0.25f, -9.0f}, {1.0f, 2.0f, 4.0f}};
+
+// From place `first` on, 24 inactive places of a node take a form's values in turn.
+template <class Node>
+void fill_form(Node* node, openvdb::Index first, const std::vector<float>& fill) {
+    for (openvdb::Index n = 0; n < 24; ++n) node->addTile(first + n, fill[n % fill.size()], false);
 }
 
 // Fog with leaves and active tiles of both levels, three roots, positive and negative coordinates.
@@ -146,18 +157,13 @@ FloatGrid::Ptr sphere() {
 FloatGrid::Ptr form_cloud() {
     FloatGrid::Ptr grid = cloud("forms", 3.0f, openvdb::GRID_LEVEL_SET);
     FloatTree& tree = grid->tree();
-    const std::vector<std::vector<float>> fills = {
-        {3.0f}, {-3.0f}, {7.5f}, {3.0f, -3.0f}, {3.0f, 0.1f}, {0.25f, -9.0f}, {1.0f, 2.0f, 4.0f}};
     Node5* root = new Node5(Coord(0, -4096, 0), 3.0f, false);
     tree.root().addChild(root);
-    for (size_t form = 0; form < fills.size(); ++form) {
-        const std::vector<float>& fill = fills[form];
+    for (size_t form = 0; form < FILLS.size(); ++form) {
+        const std::vector<float>& fill = FILLS[form];
         Node4* node = new Node4(Coord(0, -4096, 128 * int(form)), fill[0], false);
         root->addChild(node);
-        // From place 1000 on the inactive places take the form's values in turn.
-        for (size_t n = 0; n < 24; ++n) {
-            node->addTile(openvdb::Index(1000 + n), fill[n % fill.size()], false);
-        }
+        fill_form(node, 1000, fill);
         node->addTile(openvdb::Index(5 + form), 0.5f + float(form), true);
         node->addTile(openvdb::Index(4095), -0.5f - float(form), true);
 
@@ -338,12 +344,118 @@ void several(const std::string& name, int number) {
     set_identity(path_of(name), number);
 }
 
+// Values with noise in every bit, so that packing does not make them shorter. No half is a
+// signalling NaN, which OpenVDB reads otherwise than document 01.
+class Noise {
+public:
+    Noise(bool half, uint32_t seed) : halves(half), numbers(seed) {}
+    float value() {
+        const uint32_t bits = uint32_t(numbers());
+        if (!halves) return pattern(bits);
+        return half(uint16_t((bits & 0x7fff) > 0x7c00 ? bits | 0x0200 : bits));
+    }
+    std::vector<float> values(size_t count) {
+        std::vector<float> row(count);
+        for (float& one : row) one = value();
+        return row;
+    }
+
+private:
+    bool halves;
+    std::mt19937 numbers;
+};
+
+// OpenVDB zips no fog and no level set: the class of these grids is unknown.
+FloatGrid::Ptr packable(const std::string& name, bool half) {
+    FloatGrid::Ptr grid = cloud(name, 3.0f, openvdb::GRID_UNKNOWN);
+    grid->setSaveFloatAsHalf(half);
+    return grid;
+}
+
+// A leaf of the given form with so many active voxels. With form 6 every place is stored, and noise.
+Leaf* noisy_leaf(const Coord& at, int form, openvdb::Index active, Noise& noise) {
+    Leaf* leaf = new Leaf(at, 3.0f, false);
+    for (openvdb::Index n = 0; n < active; ++n) leaf->setValueOn(n * 512 / active, noise.value());
+    inactive(leaf, form == 6 ? noise.values(512) : FILLS[form]);
+    return leaf;
+}
+
+// One root whose runs are all raw. The 5-node and one 4-node have the forms that are asked for. The
+// other 4-node has leaves of each form; it stores `least` values, 0 or 1, and so do two of them, one
+// behind a selection mask.
+FloatGrid::Ptr raw_cloud(const std::string& name, bool half, int form_5, int form_4,
+                         openvdb::Index least) {
+    FloatGrid::Ptr grid = packable(name, half);
+    Noise noise(half, uint32_t(10 * form_5 + form_4));
+    Node5* root = new Node5(Coord(-4096, 0, 4096), FILLS[form_5][0], false);
+    grid->tree().root().addChild(root);
+    fill_form(root, 2000, FILLS[form_5]);
+    for (openvdb::Index p : {0, 33, 1058, 32767}) root->addTile(p, noise.value(), true);
+
+    Node4* node = new Node4(Coord(-4096, 0, 4224), 3.0f, false);
+    root->addChild(node);
+    if (least > 0) node->addTile(4000, noise.value(), true);
+    const openvdb::Index active[] = {1, least, 2, 11, least, 64, 5};
+    for (int form = 0; form < 7; ++form) {
+        node->addLeaf(noisy_leaf(Coord(-4096, 0, 4224 + 8 * form), form, active[form], noise));
+    }
+    node = new Node4(Coord(-3968, 128, 4224), FILLS[form_4][0], false);
+    root->addChild(node);
+    fill_form(node, 1000, FILLS[form_4]);
+    for (openvdb::Index p = 0; p < 30; ++p) node->addTile(p * 140, noise.value(), true);
+    node->addLeaf(noisy_leaf(Coord(-3848, 248, 4344), 0, least == 0 ? 512 : 300, noise));
+    return grid;
+}
+
+// All places of one root and its 4-node are stored, and all are noise.
+FloatGrid::Ptr raw_places(const std::string& name) {
+    FloatGrid::Ptr grid = packable(name, true);
+    Noise noise(true, 6);
+    Node5* root = new Node5(Coord(0, -4096, 0), 0.0f, false);
+    Node4* node = new Node4(Coord(0, -128, 128), 0.0f, false);
+    for (openvdb::Index p = 0; p < 32768; ++p) root->addTile(p, noise.value(), p % 1000 == 7);
+    for (openvdb::Index p = 0; p < 4096; ++p) node->addTile(p, noise.value(), p % 200 == 7);
+    grid->tree().root().addChild(root);
+    root->addChild(node);
+    node->addLeaf(noisy_leaf(Coord(64, -64, 192), 6, 20, noise));
+    node->addLeaf(noisy_leaf(Coord(120, -8, 248), 6, 20, noise));
+    return grid;
+}
+
+// Grids with a packing flag and no packed run, of floats, and grids without a run at all.
+void raw(const std::string& name, int number) {
+    std::vector<MixedArchive::Part> parts;
+    parts.push_back({raw_cloud("zip", false, 0, 4, 0), ZIP | ACTIVE, "zip", ""});
+    parts.push_back({raw_cloud("blosc", false, 0, 5, 1), BLOSC | ACTIVE, "blosc", "", true});
+    parts.push_back({raw_cloud("both", false, 5, 3, 0), ZIP | BLOSC | ACTIVE, "both", "", true});
+    parts.push_back({packable("no zip", false), ZIP, "no zip", ""});
+    parts.push_back({packable("no blosc", false), BLOSC, "no blosc", ""});
+    MixedArchive().save(path_of(name), parts, openvdb::MetaMap());
+    set_identity(path_of(name), number);
+}
+
+// The same of halves. The last two grids are as OpenVDB writes them with Blosc: an empty run of
+// halves has no number before it, so that one grid has no number at all, and the other a single one,
+// in its 4-node, whose tile is packed.
+void raw_half(const std::string& name, int number) {
+    std::vector<MixedArchive::Part> parts;
+    parts.push_back({raw_cloud("zip", true, 3, 2, 0), ZIP | ACTIVE, "zip", ""});
+    parts.push_back({raw_cloud("blosc", true, 2, 5, 1), BLOSC | ACTIVE, "blosc", "", true});
+    for (const std::string title : {"empty", "tile"}) {
+        FloatGrid::Ptr grid = packable(title, true);
+        add_leaf(grid->tree(), Coord(0, 0, 8), 3.0f);
+        if (title == "tile") grid->tree().addTile(1, Coord(0), 1.0f, true);
+        parts.push_back({grid, BLOSC | ACTIVE, title, ""});
+    }
+    MixedArchive().save(path_of(name), parts, openvdb::MetaMap());
+    set_identity(path_of(name), number);
+}
+
 // Grids that the reader refuses to open, each for its own reason, in a file that opens; the last
 // one is accepted.
 void refused(const std::string& name, int number) {
     using openvdb::math::MapBase;
     using openvdb::math::Transform;
-    const uint32_t zip = openvdb::io::COMPRESS_ZIP, blosc = openvdb::io::COMPRESS_BLOSC;
     std::vector<MixedArchive::Part> parts;
 
     openvdb::Int32Grid::Ptr counts = openvdb::Int32Grid::create(7);
@@ -363,9 +475,17 @@ void refused(const std::string& name, int number) {
     shared->setTransform(Transform::createLinearTransform(3.0));
     parts.push_back({shared, ACTIVE, "shared", "tree"});
 
-    parts.push_back({cloud("zip", 0.5f, openvdb::GRID_UNKNOWN), zip | ACTIVE, "zip", ""});
-    parts.push_back({cloud("blosc", 0.5f, openvdb::GRID_UNKNOWN), blosc | ACTIVE, "blosc", ""});
-    parts.push_back({cloud("zip alone", 0.5f, openvdb::GRID_UNKNOWN), zip, "zip alone", ""});
+    // Packed are the run of the last leaf; each run; the 5-node's, of 32,768 values.
+    FloatGrid::Ptr zip = packable("zip", false);
+    for (int z = 0; z < 5; ++z) zip->tree().setValue(Coord(0, 0, 8 * z), 0.75f);
+    zip->tree().addLeaf(new Leaf(Coord(0, 0, 40), 0.75f, true));
+    parts.push_back({zip, ZIP | ACTIVE, "zip", ""});
+    FloatGrid::Ptr blosc = packable("blosc", false);
+    blosc->tree().setValue(Coord(0), 0.75f);
+    parts.push_back({blosc, BLOSC | ACTIVE, "blosc", ""});
+    FloatGrid::Ptr alone = packable("zip alone", false);
+    alone->tree().addTile(2, Coord(0), 0.75f, true);
+    parts.push_back({alone, ZIP, "zip alone", ""});
 
     FloatGrid::Ptr turned = cloud("turned", 0.5f, openvdb::GRID_UNKNOWN); // AffineMap
     openvdb::math::Mat4d turn = openvdb::math::Mat4d::identity();
@@ -420,5 +540,8 @@ int main(int argc, char** argv) {
     write("no_grids.vdb", 11, ACTIVE, {});
     stream("stream.vdb", 12);
     write("half_full.vdb", 13, ACTIVE, {full_halves()});
+    raw("raw.vdb", 14);
+    raw_half("raw_half.vdb", 15);
+    write("raw_plain.vdb", 16, ZIP, {raw_places("noise")});
     return 0;
 }

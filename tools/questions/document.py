@@ -160,6 +160,17 @@ class Coding:
         self.version, self.flags, self.width = version, flags, width
 
 
+def run(reader, coding, count):
+    """The bytes of so many stored values. With flag 0x1 or 0x4 an i64 stands before them, except before no halves: positive where they are packed,
+    else minus as many bytes as they take."""
+    size = count * coding.width
+    if coding.flags & 5 and not (coding.width == 2 and count == 0):
+        number, = reader.numbers('q')
+        check(number <= 0, 6)
+        check(-number == size, 25)
+    return reader.take(size)
+
+
 class Stored:
     """The values of a node or, where `child` is None, of a leaf."""
 
@@ -179,7 +190,7 @@ class Stored:
             if byte in (3, 4, 5):
                 self.selection = reader.mask(places)
             self.stored = value if coding.flags & 2 and byte != 6 else every
-        self.run = reader.take(ones(self.stored) * self.width)
+        self.run = run(reader, coding, ones(self.stored))
 
     def at(self, place):
         if not self.stored >> place & 1:
@@ -268,7 +279,6 @@ class Opened:
         grid = file.grid(asked)
         check(grid.type[2] in (b'Tree_float_5_4_3', b'Tree_float_5_4_3_HalfFloat'), 12)
         check(not grid.parent[2], 13)
-        check(not grid.flags & 5, 6)
         coding = Coding(file.version, grid.flags, width(grid))
         reader = Reader(data, grid.tree)
         self.map = transform(reader)

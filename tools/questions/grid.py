@@ -16,6 +16,10 @@ def i32(*numbers):
     return struct.pack('<%di' % len(numbers), *numbers)
 
 
+def i64(number):
+    return struct.pack('<q', number)
+
+
 def with_bits(length, *places):
     return sum(1 << place for place in places).to_bytes(length, 'little')
 
@@ -50,6 +54,8 @@ BOTH_5 = 4382, with_bits(4096, 1057)
 BOTH_4 = 8991, with_bits(512, 4095)
 AFFINE = 126, joined(string('AffineMap'))
 NO_NAME = joined(string('') + string(TREE) + string('q'))
+# A with these flags is refused with 6, in its 4-node.
+PACKED = 118, u32(3)
 
 A_FILES = [
     ('A', 0, []),
@@ -58,10 +64,16 @@ A_FILES = [
     ('type Tree_int32_5_4_3', 12, [(74, b'Tree_int32_5_4_3')]),
     ('type Tree_float_5_4_2', 12, [(74, b'Tree_float_5_4_2')]),
     ('no name, parent q', 13, [(65, NO_NAME)]),
-    ('flags 3', 6, [(118, u32(3))]),
-    ('flags 1', 6, [(118, u32(1))]),
-    ('flags 4', 6, [(118, u32(4))]),
+    ('flags 3: the 5-node\'s empty run takes eight bytes, and the 4-node\'s number is 1,024', 6, [(118, u32(3))]),
+    ('flags 6', 6, [(118, u32(6))]),
     ('flags 7', 6, [(118, u32(7))]),
+    ('flags 1: the 5-node\'s number is 0, where 131,072 bytes are due', 25, [(118, u32(1))]),
+    ('flags 4', 25, [(118, u32(4))]),
+    ('flags 5', 25, [(118, u32(5))]),
+    ('flags 3, the 5-node\'s number 1', 6, [(118, u32(3)), (8479, i64(1))]),
+    ('flags 3, the 5-node\'s number -1', 25, [(118, u32(3)), (8479, i64(-1))]),
+    ('flags 3, no root', 0, [(118, u32(3)), (270, u32(0))]),
+    ('flags 5, no root', 0, [(118, u32(5)), (270, u32(0))]),
     ('flags 0', 2, [(118, u32(0))]),
     ('AffineMap', 14, [AFFINE]),
     ('UniformScaleMap, so that what follows begins inside the background', 15, [(126, joined(string('UniformScaleMap')))]),
@@ -114,9 +126,8 @@ A_FILES = [
 # Several checks fail, and the first counts.
 ORDER_FILES = [
     ('7 before 12', 7, [(118, u32(8)), (74, b'Tree_int32_5_4_3')]),
-    ('12 before 13, 6, 14', 12, [(65, NO_NAME), (73, b'Tree_int32_5_4_3'), (118, u32(3)), AFFINE]),
-    ('13 before 6, 14', 13, [(65, NO_NAME), (118, u32(3)), AFFINE]),
-    ('6 before 14', 6, [(118, u32(3)), AFFINE]),
+    ('12 before 13, 14, 6', 12, [(65, NO_NAME), (73, b'Tree_int32_5_4_3'), PACKED, AFFINE]),
+    ('13 before 14, 6', 13, [(65, NO_NAME), PACKED, AFFINE]),
     ('14 before 15', 14, [(126, joined(string('ScaleMaP'))), (258, u32(2))]),
     ('15 before 16', 15, [(258, u32(2)), (270, u32(257))]),
     ('16 before 17', 16, [(270, u32(257)), (274, i32(1, 0, 0))]),
@@ -127,6 +138,16 @@ ORDER_FILES = [
     ('19 of the 4-node before 20', 19, [(9503, b'\x07'), (9568, bytes(64))]),
     ('20 before 19, in the block', 20, [(9568, bytes(64)), (9632, b'\x07')]),
     ('17 of a second root before 20', 17, [(270, u32(2)), (9568, bytes(64)), (9568, i32(1, 0, 0))]),
+    ('14 before 6', 14, [PACKED, AFFINE]),
+    ('15 before 6', 15, [PACKED, (258, u32(2))]),
+    ('16 before 6', 16, [PACKED, (270, u32(257))]),
+    ('17 before 6', 17, [PACKED, (274, i32(1, 0, 0))]),
+    ('18 before 6, in the 5-node', 18, [PACKED, BOTH_5, (8479, i64(1))]),
+    ('19 before 6, in the 5-node', 19, [PACKED, (8478, b'\x07'), (8479, i64(1))]),
+    ('18 before 25, in the 5-node', 18, [(118, u32(1)), BOTH_5]),
+    ('19 before 25, in the 5-node', 19, [(118, u32(1)), (8478, b'\x07')]),
+    ('6 before 20', 6, [PACKED, (9568, bytes(64))]),
+    ('25 before 20', 25, [(118, u32(1)), (9568, bytes(64))]),
 ]
 
 
@@ -137,7 +158,11 @@ def four(q):
     q.walk(0, 1)
 
 
-def ask_files(q, files):
+def first(q):
+    q.open(0)
+
+
+def ask_files(q, files, how=four):
     """The file as it stands is kept, and each of the others made from it."""
     q.keep()
     for name, number, changes in files:
@@ -146,7 +171,7 @@ def ask_files(q, files):
         for at, new in changes:
             q.change(at, new)
         agree(q, number)
-        four(q)
+        how(q)
 
 
 def agree(q, number):
@@ -261,21 +286,36 @@ def masks_by_rule(*seeds):
 
 
 MASKS = masks_by_rule(5, 90)
+# A leaf with a few active voxels
+VOXELS = 74, 75, 79, 88
+
+
+def front(version, flags, ending=''):
+    """A file up to the positions of its grid, and the word of flags that stands behind these: under 222 none, and the packed byte in its place."""
+    start = joined(head(version))
+    start = start if version >= 222 else start[:-1] + bytes([flags])
+    return start + bytes(36) + u32(0, 1) + joined(descriptor(NAME, TREE + ending)), u32(flags) if version >= 222 else b''
+
+
+def zeros(flags, width, count):
+    """So many stored values, all 0. With a packing flag a number stands before them, but before no halves."""
+    number = i64(-count * width) if flags & 5 and (count or width == 4) else b''
+    return number + bytes(count * width)
 
 
 def built(version, flags, entries, width, leaves, ending=''):
     """A file with the tree of A, but for its leaves, whose masks are given, up to where their blocks start. The end is at the grid."""
-    front = joined(head(version)) + bytes(36) + u32(0, 1) + joined(descriptor(NAME, TREE + ending))
-    at = len(front) + 24
+    start, word = front(version, flags, ending)
+    at = len(start) + 24
     every = flags & 2 == 0 or version < 222
     byte = b'' if version < 222 else b'\0'
     fewer = 1 if version < 222 else 0
-    tree = (u32(flags) if version >= 222 else b'') + joined(entries) + joined(string(MAP)) + doubles(15)
+    tree = word + joined(entries) + joined(string(MAP)) + bytes(120)
     tree += FIELD['buffer count'] + BACKGROUND + joined(fields('tile count', 'root count', 'root origin'))
-    tree += joined(fields('5-node, child mask', '5-node, value mask')) + byte + bytes((32768 - fewer) * width * every)
+    tree += joined(fields('5-node, child mask', '5-node, value mask')) + byte + zeros(flags, width, (32768 - fewer) * every)
     tree += with_bits(512, *range(4096 - len(leaves), 4096)) + bytes(512) + byte
-    tree += bytes((4096 - fewer * len(leaves)) * width * every) + b''.join(leaves)
-    return front + u64(at, at + len(tree), at) + tree
+    tree += zeros(flags, width, (4096 - fewer * len(leaves)) * every) + b''.join(leaves)
+    return start + u64(at, at + len(tree), at) + tree
 
 
 def size_of_values(byte, flags, width, active):
@@ -373,7 +413,7 @@ OLD_ORIGIN = OLD_BLOCK + 64
 OLD_FILES = [
     ('version 220', 0, []),
     ('version 221', 0, [(8, u32(221))]),
-    ('packed', 6, [(21, b'\x01')]),
+    ('packed: the 5-node\'s number is 0, where 131,068 bytes are due', 25, [(21, b'\x01')]),
     ('both at 1057', 18, [(4379, with_bits(4096, 1057))]),
     ('block mask empty', 20, [(OLD_BLOCK, bytes(64))]),
     ('block origin x', 20, [(OLD_ORIGIN, i32(-3856))]),

@@ -14,6 +14,7 @@ import grid
 import openvdb
 import origins
 import parts
+import raw
 import transforms
 import walks
 from calls import Questions
@@ -23,6 +24,7 @@ CRATES = os.path.join(os.path.dirname(os.path.abspath(__file__)), '..', '..', 'c
 q = Questions()
 archive.ask(q)
 grid.ask(q)
+raw.ask(q)
 openvdb.ask(q)
 transforms.ask(q)
 walks.ask(q)

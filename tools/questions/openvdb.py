@@ -57,9 +57,11 @@ class Described:
         """What stands behind the first such label."""
         return next(line[len(label) + 1:] for line in self.lines if line.startswith(label + ' '))
 
-    def header(self):
-        return self.refused or ' %s %s 0 %s %s%s' % (
-            self.field('version'), self.field('library'), self.field('metadata').split()[0], self.field('grids'),
+    def header(self, grids):
+        """Under 222 the flags of each grid are the packed byte's."""
+        packed = self.refused == '' and int(self.field('version')) < 222 and any(grid.field('flags') == '1' for grid in grids)
+        return self.refused or ' %s %s %d %s %s%s' % (
+            self.field('version'), self.field('library'), packed, self.field('metadata').split()[0], self.field('grids'),
             span(self.field('identity')))
 
     def name(self):
@@ -134,7 +136,7 @@ def ask_file(q, name):
     q.comment('== ' + name)
     at, before = len(q.lines), q.agreed
     q.load(name + '.vdb', readers.stored(name))
-    q.header(file.header())
+    q.header(file.header(grids))
     if not file.refused:
         for entry, answer in entries(file):
             q.entry(entry, answer)

@@ -147,6 +147,55 @@ def nodes(q):
     ask_node(q, Coding(221, 2, 4), 4096)
 
 
+def must_end(q, coding, end):
+    """The values end there: with a byte less they are refused with 2."""
+    assert ask_node(q, coding, 64)[-1] == end
+    size = q.length
+    q.size(end - 1)
+    assert ask_node(q, coding, 64, 511) == 2 * [4294967296 + 2]
+    q.size(size)
+
+
+def numbers_before_runs(q):
+    """With flag 0x1 or 0x4 (N3). The number stands behind inactive values and selection mask."""
+    q.comment('a number before the run')
+    q.new(2500)
+    q.change(0, apart(64))
+    active = sum(bits(q, 64, 64))
+    for byte in range(7):
+        at = 129 + {2: 4, 4: 4, 5: 8}.get(byte, 0) + (64 if byte in (3, 4, 5) else 0)
+        for flags, width in ((1, 2), (3, 2), (4, 4), (6, 4)):
+            size = width * (active if flags & 2 and byte != 6 else 512)
+            q.random(128, 2372, 500 + flags)
+            q.put(128, bytes([byte]))
+            q.quad(at, 2 ** 64 - size)
+            must_end(q, Coding(224, flags, width), at + 8 + size)
+            for number, expected in (1, 6), (1 - size, 25):
+                q.quad(at, number % 2 ** 64)
+                assert ask_node(q, Coding(224, flags, width), 64, 511) == 2 * [4294967296 + expected]
+    q.comment('the same under 222')
+    for version, width in ((220, 4), (221, 2)):
+        size = width * bits(q, 0, 64).count(0)
+        q.quad(128, 2 ** 64 - size)
+        must_end(q, Coding(version, 1, width), 136 + size)
+
+
+def numbers_before_nothing(q):
+    """An empty run of floats has a number, one of halves has none."""
+    q.comment('no place is active')
+    q.new(140)
+    for flags in (3, 6, 7):
+        must_end(q, Coding(224, flags, 4), 137)
+        must_end(q, Coding(224, flags, 2), 129)
+    q.comment('each place has a child')
+    q.put(0, 64 * b'\xff')
+    must_end(q, Coding(220, 1, 4), 136)
+    for number, expected in (1, 6), (-1, 25):
+        q.quad(128, number % 2 ** 64)
+        assert ask_node(q, Coding(220, 1, 4), 64, 511) == 2 * [4294967296 + expected]
+        assert ask_node(q, Coding(221, 1, 2), 64)[-1] == 128
+
+
 def marked(q):
     """Section 9."""
     q.comment('== ones 2, 5 and 9, form 5, place 4 selected: places 5, 4 and 3')
@@ -216,5 +265,7 @@ def ask(q):
     masks(q)
     halves(q)
     nodes(q)
+    numbers_before_runs(q)
+    numbers_before_nothing(q)
     marked(q)
     coordinates(q)

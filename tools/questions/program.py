@@ -2,7 +2,8 @@
 import os
 import re
 
-SIZE = 262144
+# How long a file may be, and the whole input.
+SIZE, INPUT = 262144, 524288
 # From here on a program keeps the names of its questions.
 NAMES = 200000
 # The last position that can be asked for.
@@ -65,7 +66,7 @@ class Program:
         self.agreed = 0
 
     def write(self, folder):
-        assert sum(len(line) + 1 for line, _ in self.lines) <= SIZE
+        assert sum(len(line) + 1 for line, _ in self.lines) <= INPUT
         with open(os.path.join(folder, 'stdin'), 'w') as asked, open(os.path.join(folder, 'stdout'), 'w') as answered:
             for line, answer in self.lines:
                 asked.write(line + '\n')

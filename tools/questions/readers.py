@@ -3,7 +3,8 @@
 Each says it in the text of compare/README.md: OpenVDB by what tools/openvdb has printed, the model by compare/by_document.py over the
 file's bytes, the Rust by what is kept in compare/rust/answers. The first two must be the same in each line, every value of every
 leaf included. Where the Rust says otherwise, compare/rust/listed.py must know the row of docs/DIFFERENCES.md. What was compared, and
-those rows, are said in comments before the questions about the file.
+those rows, are said in comments before the questions about the file. OpenVDB's answers are printed by tools/openvdb/describe.cc: its own parse of
+the bytes has starts, flags and file_delayed_load, document 01 the refusals.
 """
 import functools
 import os
@@ -101,8 +102,7 @@ def openvdb_line(name):
     tiles = sum(int(line.split()[-1]) for line in lines_of(name, 'roottiles'))
     if not lines_of(name, 'grids'):
         return 'OpenVDB 10: not asked, since document 01 refuses the file'
-    parts = ['OpenVDB 10, by tools/openvdb/describe.cc: the answers below; its parse of the bytes has starts, flags and file_delayed_load, '
-             'document 01 the refusals']
+    parts = ['OpenVDB 10: the answers below']
     if background:
         parts.append('the background in place of zero in inactive places of ' + counted(background, 'leaf', len(pair[0])))
     if tiles:
@@ -144,11 +144,11 @@ def by_place(name, number):
     return found
 
 
-def other_things(name, found, version, numbers):
+def other_things(name, found, rust, expected, numbers):
     """What the Rust says otherwise, by rows of docs/DIFFERENCES.md, in words."""
-    rows = {}
+    rows, version = {}, int(expected.get((None, 'version'), 0))
     for thing, one, other in found:
-        row = listed.row(thing, one, other, version)
+        row = listed.row(thing, one, other, version, rust, expected)
         words = one.split()
         exact = row != 'D24' or thing[1] != 'record' or words[6:] == by_place(name, numbers[thing[0]]).get(' '.join(words[:3]))
         must(row and exact, name, str(thing), 'the Rust: %s | expected: %s' % (one, other))
@@ -173,7 +173,7 @@ def rust_line(name):
     if None in silent:
         return parts[0] + ': no answer either, ' + rust[None, 'answer']
     parts[0] += ': the same ' + joined(same_things(rust, expected))
-    parts += other_things(name, found, int(expected.get((None, 'version'), 0)), numbers)
+    parts += other_things(name, found, rust, expected, numbers)
     if silent:
         parts.append('no answer either in ' + in_grids([numbers[grid] for grid in silent]))
     return '; '.join(parts)

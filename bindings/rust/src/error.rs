@@ -1,4 +1,4 @@
-//! The refusals: the 22 checks of docs/FORMAT.md, 8.
+//! The refusals: the checks of docs/FORMAT.md, 8.
 
 use core::fmt;
 
@@ -56,7 +56,7 @@ checks! {
     3 MagicMismatch "the file does not begin with OpenVDB's magic bytes"
     4 UnsupportedVersion "the file version is not one of 220 to 224"
     5 NoGridOffsets "the file has no grid offsets: it was written as a stream"
-    6 PackedGrid "the grid is packed (ZIP or Blosc)"
+    6 PackedGrid "a run of the grid's values is packed (ZIP or Blosc)"
     7 InvalidCompression "the grid's flags are above 7"
     8 TooManyGrids "the file has more than 64 grids"
     9 PositionPastEnd "a grid's position lies past the end of the file"
@@ -73,6 +73,7 @@ checks! {
     20 InvalidLeafBlock "a leaf's block does not fit the tree"
     21 NoSuchLeaf "there is no such leaf, or the slots are not 512 a leaf"
     22 ForeignPlace "the place of the walk does not belong to this file"
+    25 InvalidRunSize "the number before a run of values is not that of its bytes"
 }
 
 impl ParseError {

@@ -3,7 +3,8 @@
 //! The reader itself is the static library `libvdb.a`, written in Rattle and proved: for any bytes it answers with what the file says, or with the number
 //! of the first check that fails. This crate lends it slices, with the names that a user of vdb-rs knows. It allocates nothing and needs no `std`.
 //!
-//! Read are float grids of file versions 220 to 224, trees 5-4-3 of 32-bit floats or halves, values stored unpacked.
+//! Read are float grids of file versions 220 to 224, trees 5-4-3 of 32-bit floats or halves, values stored unpacked, also where a flag says that they
+//! may be packed.
 //!
 //! ```
 //! # fn main() -> Result<(), Box<dyn std::error::Error>> {
@@ -80,7 +81,7 @@ pub struct ArchiveHeader<'f> {
     pub library_version_major: u32,
     /// Its second number.
     pub library_version_minor: u32,
-    /// Whether versions 220 and 221 say that all values are packed.
+    /// Whether versions 220 and 221 say that values may be packed.
     pub packed: bool,
     /// The identity: 36 bytes, as OpenVDB writes them the text of a UUID.
     pub guid: &'f [u8],
@@ -97,11 +98,11 @@ pub struct Compression(u32);
 impl Compression {
     /// All values, as they are.
     pub const NONE: Self = Self(0);
-    /// Packed with ZIP.
+    /// Values may be packed with ZIP. A grid that opens has none that is.
     pub const ZIP: Self = Self(1);
     /// Only values of active places are stored.
     pub const ACTIVE_MASK: Self = Self(2);
-    /// Packed with Blosc.
+    /// Values may be packed with Blosc. A grid that opens has none that is.
     pub const BLOSC: Self = Self(4);
 
     /// The flags as a number.

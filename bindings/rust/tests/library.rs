@@ -2,7 +2,7 @@
 
 mod common;
 
-use common::{case_a, digest, half_entries, many_tiles, openvdb, read, refused_files};
+use common::{a_numbered, case_a, digest, half_entries, many_tiles, openvdb, read, refused_files};
 use std::collections::BTreeSet;
 use std::fmt::Write;
 use wuraiko::{walk, Compression, Grid, Map, MetadataValue, ParseError, Place, VdbLevel, VdbReader, Walked};
@@ -75,7 +75,7 @@ fn records_are_those_of_openvdb() {
         }
         accepted += 1;
     }
-    assert_eq!(accepted, 25);
+    assert_eq!(accepted, 35);
 }
 
 #[test]
@@ -95,7 +95,7 @@ fn each_example_of_the_checks_is_refused_with_its_number() {
     for (number, file) in refused_files() {
         let grid = VdbReader::new(&file).and_then(|reader| reader.read_grid("d"));
         assert_eq!(grid.err().map(ParseError::number), Some(number));
-        // These two calls differ in what opens: 6 and 12 to 20 are checks of a grid.
+        // These two calls differ in what opens: 6, 12 to 20 and 25 are checks of a grid.
         assert_eq!(VdbReader::new(&file).is_ok(), number == 6 || number >= 12, "check {number}");
     }
     // The zeros of a long file are never touched.
@@ -111,16 +111,50 @@ fn each_example_of_the_checks_is_refused_with_its_number() {
 }
 
 #[test]
+fn a_grid_flagged_for_packing_is_read_where_its_values_are_raw() {
+    let a = case_a();
+    let expected = VdbReader::new(&a).unwrap().read_grid("d").unwrap();
+    for flags in [3, 6, 7] {
+        let file = a_numbered(flags, [0, 0, -4]);
+        let reader = VdbReader::new(&file).unwrap();
+        let grid = reader.read_grid("d").unwrap();
+        assert_eq!(grid.descriptor.compression.bits(), flags);
+        assert_eq!(described(&grid), described(&expected));
+        assert_eq!(walked(&file, &grid, 3), iterated(&expected));
+        let (mut leaf, mut other) = ([7; 512], [7; 512]);
+        grid.fill_leaf(0, &mut leaf).unwrap();
+        expected.fill_leaf(0, &mut other).unwrap();
+        assert_eq!(leaf, other);
+    }
+    for (numbers, error) in [
+        ([1, 0, -4], ParseError::PackedGrid),
+        ([0, i64::MAX, -4], ParseError::PackedGrid),
+        ([0, 0, 4], ParseError::PackedGrid),
+        ([-1, 0, -4], ParseError::InvalidRunSize),
+        ([0, i64::MIN, -4], ParseError::InvalidRunSize),
+        ([0, 0, 0], ParseError::InvalidRunSize),
+        ([0, 0, -5], ParseError::InvalidRunSize),
+        // The first that fails counts.
+        ([1, -1, 0], ParseError::PackedGrid),
+        ([-1, 1, 1], ParseError::InvalidRunSize),
+    ] {
+        let file = a_numbered(3, numbers);
+        let reader = VdbReader::new(&file).unwrap();
+        assert_eq!(reader.read_grid("d").err(), Some(error), "{numbers:?}");
+    }
+}
+
+#[test]
 fn errors_have_numbers_and_texts() {
     let mut texts = BTreeSet::new();
-    for number in 1..=22 {
+    for number in (1..=22).chain([25]) {
         let error = ParseError::from_number(number);
         assert_ne!(error, ParseError::Other(number));
         assert_eq!(error.number(), number);
         assert!(error.to_string().ends_with(&format!("(check {number})")));
         texts.insert(error.text());
     }
-    assert_eq!(texts.len(), 22);
+    assert_eq!(texts.len(), 23);
     assert_eq!(ParseError::from_number(23), ParseError::Other(23));
     assert_eq!((ParseError::UnknownAnswer.number(), ParseError::from_number(0)), (0, ParseError::UnknownAnswer));
     assert!(!ParseError::UnknownAnswer.to_string().contains("(check "));

@@ -3,7 +3,7 @@
 mod common;
 
 use common::json::{self, Schema, Value};
-use common::{a_with, case_a, cloud, digest, half_entries, many_tiles, openvdb, read, refused_files, repository};
+use common::{a_numbered, a_with, case_a, cloud, digest, half_entries, many_tiles, openvdb, read, refused_files, repository};
 use std::ffi::OsStr;
 use std::fs;
 use std::io::Write;
@@ -207,7 +207,7 @@ fn each_refusal_has_its_number_and_status_1() {
         let file = Kept::new(&format!("refused-{number}"), &bytes);
         let output = run(&[&file.0]);
         assert_eq!(output.status.code(), Some(1), "check {number}");
-        // 6 and 12 to 20 are checks of a grid, which are told in its place; the others are told of the file.
+        // 6, 12 to 20 and 25 are checks of a grid, which are told in its place; the others are told of the file.
         if number == 6 || number >= 12 {
             assert!(field(&out(&output), "refused").starts_with(&format!("{number}: ")), "check {number}");
             assert!(!err(&output).contains(": refused "), "check {number}");
@@ -242,6 +242,36 @@ fn a_packed_file_comes_with_a_way_to_convert_it() {
     assert_eq!(said.matches("vdb_tool -read '").count(), 1);
     assert!(said.contains("-write codec=active "));
     assert_eq!(grids(&out(&output)).len(), 10);
+}
+
+#[test]
+fn a_grid_flagged_for_packing_is_listed_where_its_values_are_raw() {
+    let a = out(&fed(&["-"], &case_a()));
+    for (flags, with) in [(3, "ZIP"), (6, "Blosc"), (7, "ZIP and Blosc")] {
+        let bytes = a_numbered(flags, [0, 0, -4]);
+        let output = fed(&["-"], &bytes);
+        assert_eq!((output.status.code(), err(&output).as_str()), (Some(0), ""));
+        let stored = format!("active values, unpacked, though flagged for {with} (flags {flags})");
+        assert_eq!(field(&out(&output), "stored"), stored);
+        // Apart from that, and from the file's length, it is listed as A is.
+        let expected = a.replacen("9,637 bytes", "9,661 bytes", 1).replacen("active values, unpacked (flags 2)", &stored, 1);
+        assert_eq!(out(&output), expected);
+        assert_eq!(out(&fed(&["--records", "d", "-"], &bytes)), "records 1\n-3847 249 4346 0 1.0\n");
+        let grid = json::one(&out(&fed(&["--json", "-"], &bytes))).get("grids").items()[0].clone();
+        assert_eq!(["flags", "records"].map(|key| grid.get(key).word().to_string()), [flags.to_string(), "1".into()]);
+        assert!(out(&fed(&["--brief", "-"], &bytes)).ends_with(": \"d\" records 1, leaves 1\n"));
+    }
+    // A packed run, and one that is not as long as its number says. Only the first comes with a way to convert the file.
+    for (numbers, refused, told) in [
+        ([0, 0, 4], "6: a run of the grid's values is packed (ZIP or Blosc)", true),
+        ([0, 0, -5], "25: the number before a run of values is not that of its bytes", false),
+    ] {
+        let output = fed(&["-"], &a_numbered(3, numbers));
+        assert_eq!(output.status.code(), Some(1));
+        assert_eq!(field(&out(&output), "refused"), refused);
+        assert_eq!(field(&out(&output), "stored"), "active values, flagged for ZIP (flags 3)");
+        assert_eq!(err(&output).contains("vdb_tool -read '"), told, "{refused}");
+    }
 }
 
 #[test]
@@ -561,5 +591,5 @@ fn voxels_are_those_that_openvdb_counted() {
             compared += 1;
         }
     }
-    assert_eq!(compared, 23);
+    assert_eq!(compared, 33);
 }

@@ -72,7 +72,7 @@ module _ (s t : List ℕ) (asked : Asked) (name : List ℕ) (u : SameAsked s t a
       field (y .0 .header) (z .0) (u .content (y .0) (z .0) (y .1) (z .1)) g (a .0) (a .1)
     where
       field : (h : ArchiveHeader) (d : GridDescriptor) → SameContent s t h d → Always (λ g v. SameStops s t g) (gridField s h d)
-      field h d k = check-always _ _ _ _ λ x. check-always _ _ _ _ λ y. check-always _ _ _ _ λ z. content-alike s t h d k
+      field h d k = check-always _ _ _ _ λ x. check-always _ _ _ _ λ y. content-alike s t h d k
 
   -- the stops from the start on are at the grid's pieces
   own-pieces : map (λ u. u .piece) (toCome s (g .coding) (startCursor g) .items) ≡ pieces (g .filled)

@@ -33,7 +33,7 @@ pub fn empty(len: usize) -> Line {
 }
 
 // The whole input, and its length.
-pub fn input(t: &mut [u8; 262144]) -> usize {
+pub fn input(t: &mut [u8; 524288]) -> usize {
     io::read_full(0, t)
 }
 

@@ -9,8 +9,8 @@ use Rattle.fields.specs.Fields.{stringField, sameBytes}
 use Rattle.coordinates.specs.Coordinates.{localOf, globalOf, remainder, aligned}
 use Rattle.masks.specs.Masks.{digit, maskBit, onesFrom}
 use Rattle.half.specs.Half.{storedValue}
-use Rattle.forms.specs.Forms.{formField, formSelected, inactiveField, selectionField, inactivesField, storedBy, headField}
-use Rattle.runs.specs.Runs.{isStored, runField, valuesField}
+use Rattle.forms.specs.Forms.{mayPack, formField, formSelected, inactiveField, selectionField, inactivesField, storedBy, headField}
+use Rattle.runs.specs.Runs.{isStored, isSized, numberField, runField, valuesField}
 use Rattle.values.specs.Values.{isSelected, inactiveValue, placeValue, valuesFrom}
 use Rattle.nodes.specs.Nodes.{nodeField, oldField, blockField}
 use Rattle.roots.specs.Roots.{buffersField, rootCountField, tilesField, treeHeadField, isAmong, originField}
@@ -54,7 +54,7 @@ tiles-is = record { front-is = (refl, refl, refl, refl, refl); origin-read = ref
 -- what is computed of a leaf's or a node's bytes
 unfoldable reads-values : Unit {0}
 unfolding
-    when then check field digit maskBit onesFrom oldField formField formSelected inactiveField selectionField inactivesField storedBy headField isStored runField
+    when then check field digit maskBit onesFrom oldField formField formSelected inactiveField selectionField inactivesField storedBy headField isStored mayPack isSized numberField runField
     valuesField isSelected inactiveValue placeValue valuesFrom storedValue blockField nodeField
 reads-values = tt
 

@@ -15,8 +15,8 @@ use Rattle.coordinates.specs.declared.GlobalCoord.{GlobalCoord}
 use Rattle.masks.specs.Masks.{maskBit, consIf, onesFrom, ones, countBelow}
 use Rattle.masks.proofs.Laws.{ones-none, count-suc-one, count-suc-zero}
 use Rattle.half.specs.Half.{storedValue}
-use Rattle.forms.specs.Forms.{isPacked, formField, formSelected, inactiveField, selectionField, inactivesField, storedBy, headField}
-use Rattle.runs.specs.Runs.{isStored, runField, valuesField}
+use Rattle.forms.specs.Forms.{mayPack, formField, formSelected, inactiveField, selectionField, inactivesField, storedBy, headField}
+use Rattle.runs.specs.Runs.{isStored, isSized, numberField, runField, valuesField}
 use Rattle.values.specs.Values.{isSelected, inactiveValue, placeValue, valuesFrom}
 use Rattle.forms.specs.declared.Coding.{Coding}
 use Rattle.forms.specs.declared.Stored.{Stored}
@@ -77,7 +77,7 @@ module _ (s : List ℕ) where
   values-read :
       (old : Stored) (n child value at : ℕ) {l : List ℕ} → ones (maskBit s value) (8 * n) ≡ l → byteAt s at ≡ 0 → at + 1 + length l * 4 ≤ length s →
       got (run (at + 1)) (at + 1 + length l * 4) ≡ valuesField s coding old n child value at
-  unfolding valuesField headField formField formSelected inactivesField inactiveField selectionField storedBy runField isStored when check then
+  unfolding valuesField headField formField formSelected inactivesField inactiveField selectionField storedBy mayPack isSized numberField runField isStored when check then
   values-read old n child value at e z h =
       rw (← e)
       (then-got _ (then-got _ (then-got _ (field-whole s at 1 0 (byteAt s at) (omega arith) (sym z)) refl) refl)
@@ -313,7 +313,7 @@ module _ {s : List ℕ} {o : GlobalCoord} {p5 : ℕ} {v5 : List ℕ} {p4 : ℕ} 
   content-read = then-got _ (f .front-is .3) (then-got _ (f .front-is .4) (then-got _ roots-read (then-got _ blocks-read refl)))
 
   opened : (asked : Asked) (name : List ℕ) → isAsked s asked name 0 (descriptorOf (at3 v5 v4 + 64) (at3 v5 v4 + 133)) ≡ true → gives found ≡ grid s asked name
-  unfolding grid fileAsked latest when present gridField isPacked widthOf check
+  unfolding grid fileAsked latest when present gridField widthOf check
   opened asked name h =
       with-gives _ (with-gives _ (answer-got (f .front-is .1)) refl)
       (with-gives _ (ap present (when-true _ (sym h) refl))

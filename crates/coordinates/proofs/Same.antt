@@ -1,29 +1,17 @@
 -- Two coordinates that are compared: by their bits in the code, and what follows where they are the same.
-use mathlib.Core.Path.{_≡_, refl, ap}
+use mathlib.Core.Path.{_≡_, refl, sym, ap, _∙_}
 use mathlib.Core.Bool.{Bool, true, false, false≢true}
-use Prim.Native.Nat.{suc, _-_, _^_, _<_}
-use native.Mathlib.Omega.{arith}
+use Prim.Native.Nat.{_^_, _<_}
 use lib.Dec.{eqb}
 use lib.IntN.{ℤ, pos, negsuc}
 use lib.Signed.{mag}
-use mir.Syntax.{w32}
-use mir.Val.{ofZ}
-use borrow.Author.Tests.{eq-eqb, ne-eqb, eqb-true, eqb-false}
+use mir.Syntax.{Width}
+use mir.Val.{toZ, ofZ, hbits}
+use borrow.Author.Tests.{eq-eqb, ne-eqb, eqb-true}
+use Rattle.fields.proofs.Laws.{kept}
 use Rattle.coordinates.specs.Coordinates.{sameInt, sameCoord}
 use Rattle.coordinates.specs.declared.GlobalCoord.{GlobalCoord}
 use Rattle.coordinates.proofs.Axis.{and-both}
-
--- two i32 are the same when their bits are
-pub same-bits : (a b : ℤ) → mag a < 2 ^ 31 → mag b < 2 ^ 31 → eqb (ofZ w32 a) (ofZ w32 b) ≡ sameInt a b
-unfolding sameInt
-same-bits (pos a) (pos b) h k = refl
-same-bits (pos a) (negsuc b) h k = ne-eqb a (4294967296 - suc b) (λ e. omega arith)
-same-bits (negsuc a) (pos b) h k = ne-eqb (4294967296 - suc a) b (λ e. omega arith)
-same-bits (negsuc a) (negsuc b) h k = go (eqb a b) refl
-  where
-    go : (t : Bool) → eqb a b ≡ t → eqb (4294967296 - suc a) (4294967296 - suc b) ≡ t
-    go true e = let f = eqb-true a b e in eq-eqb (4294967296 - suc a) (4294967296 - suc b) (omega arith)
-    go false e = let f = eqb-false a b e in ne-eqb (4294967296 - suc a) (4294967296 - suc b) (λ g. f (omega arith))
 
 same-int : (a b : ℤ) → sameInt a b ≡ true → a ≡ b
 unfolding sameInt
@@ -36,6 +24,16 @@ int-same : (a : ℤ) → sameInt a a ≡ true
 unfolding sameInt
 int-same (pos a) = eq-eqb a a refl
 int-same (negsuc a) = eq-eqb a a refl
+
+-- two numbers of one signed type are the same when their bits are, from which each comes back
+pub same-bits : (w : Width) (a b : ℤ) → mag a < 2 ^ hbits w → mag b < 2 ^ hbits w → eqb (ofZ w a) (ofZ w b) ≡ sameInt a b
+same-bits w a b h k = go (sameInt a b) refl
+  where
+    go : (t : Bool) → sameInt a b ≡ t → eqb (ofZ w a) (ofZ w b) ≡ t
+    go true e = eq-eqb _ _ (ap (ofZ w) (same-int a b e))
+    go false e = ne-eqb _ _ λ f.
+        let c : a ≡ b = sym (kept w a h) ∙ ap (toZ w) f ∙ kept w b k in
+        false≢true (sym e ∙ rw c (int-same b))
 
 pub same-coord : (a b : GlobalCoord) → sameCoord a b ≡ true → a ≡ b
 unfolding sameCoord

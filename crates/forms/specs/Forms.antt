@@ -1,4 +1,4 @@
--- Section 5: what stands before a node's stored values, with checks 6 and 19 of section 8.
+-- Section 5: what stands before a node's stored values, with check 19 of section 8.
 -- A node is given by the number n of bytes of its masks.
 use Prim.Native.Nat.{ℕ, _/_, _%_}
 use mathlib.Core.List.{List}
@@ -15,9 +15,9 @@ use Rattle.forms.specs.declared.Selection.the-variants.{At, Nothing}
 use Rattle.forms.specs.declared.Inactives.{Inactives}
 use Rattle.forms.specs.declared.ValuesHead.{ValuesHead}
 
--- check 6: the flags 0x1 and 0x4 say that values are packed
-unfoldable pub isPacked : ℕ → Bool
-isPacked flags = eqb (flags % 2) 1 || eqb (flags / 4 % 2) 1
+-- flags 0x1 and 0x4: runs of stored values may be packed
+unfoldable pub mayPack : ℕ → Bool
+mayPack flags = eqb (flags % 2) 1 || eqb (flags / 4 % 2) 1
 
 -- What the node byte b says. 2, 4 and 5 bring an inactive value, 5 one more; 3, 4 and 5 bring a selection mask; 6 stores inactive places too,
 -- also under flag 0x2.

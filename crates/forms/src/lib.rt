@@ -5,7 +5,7 @@ ghost use Rattle.fields.specs.Parse.{field};
 ghost use Rattle.fields.specs.Says.{saysU32};
 ghost use Rattle.half.specs.Inner.{isWidth};
 ghost use Rattle.half.specs.Half.{storedValue};
-ghost use Rattle.forms.specs.Forms.{isPacked, formSelected, formField, inactiveField, selectionField, inactivesField, storedBy, headField};
+ghost use Rattle.forms.specs.Forms.{mayPack, formSelected, formField, inactiveField, selectionField, inactivesField, storedBy, headField};
 ghost use Rattle.forms.specs.Inner.{saysForm, saysSelection, saysInactives, saysHead};
 use fields::SpanField;
 use fields::U8Field;
@@ -78,9 +78,9 @@ pub enum ValuesHeadField {
     Refused(u32),
 }
 
-// Whether flags say that values are packed.
-pub fn is_packed(flags: u32) -> bool
-    ensures { λ r. ⌜ r ≡ isPacked flags ⌝ }
+// Whether flags say that runs of stored values may be packed.
+pub fn may_pack(flags: u32) -> bool
+    ensures { λ r. ⌜ r ≡ mayPack flags ⌝ }
 {
     if flags % 2 == 1 {
         return true;

@@ -69,9 +69,9 @@ content-again s t h d u = then-always _ _ _ λ map q e. then-always _ _ _ λ hea
 pub grid-field-again :
     (s t : List ℕ) (h : ArchiveHeader) (d : GridDescriptor) → SameContent s t h d → Always (λ g v. (got g v ≡ gridField t h d) × SameGrid s t g) (gridField s h d)
 unfolding gridField
-grid-field-again s t h d u = check-always _ _ _ _ λ x. check-always _ _ _ _ λ y. check-always _ _ _ _ λ z g v e.
+grid-field-again s t h d u = check-always _ _ _ _ λ x. check-always _ _ _ _ λ y g v e.
     let w = content-again s t h d u g v e in
-    (check-passes 12 (sym x) (check-passes 13 (sym y) (check-passes 6 (sym z) (w .0))), w .1)
+    (check-passes 12 (sym x) (check-passes 13 (sym y) (w .0)), w .1)
 
 -- what opening the grid that is asked for reads is the same in both files
 pub record SameAsked (s t : List ℕ) (asked : Asked) (name : List ℕ) : Type 0 where

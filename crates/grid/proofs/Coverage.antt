@@ -45,7 +45,7 @@ width-is Half.Nothing Kind.Other = omega arith
 grid-field : (s : List ℕ) (h : ArchiveHeader) (d : GridDescriptor) → Always (λ g p. GridRead s g) (gridField s h d)
 unfolding gridField contentField
 grid-field s h d =
-    check-always _ _ _ _ λ x. check-always _ _ _ _ λ y. check-always _ _ _ _ λ z.
+    check-always _ _ _ _ λ x. check-always _ _ _ _ λ y.
     then-always _ _ _ λ map p e. then-always _ _ _ λ head q e. then-always _ _ _ λ roots r f. then-always _ _ _ λ filled v i. got-always _ _ _
     (record {
       parsed = record { count = head .«root_count»; start = q; end = r; block = d .«block_pos»; past = v; roots-read = f; blocks-read = i };

@@ -1,7 +1,7 @@
 -- Laws of the definitions, by which the functions' proofs go.
 use mathlib.Core.Path.{_≡_, refl, sym, ap, _∙_}
 use mathlib.Core.List.{List, [], map}
-use mathlib.Core.Bool.{true, not}
+use mathlib.Core.Bool.{true}
 use mathlib.Core.Option.{Option, none, some}
 use Prim.Native.Nat.{ℕ, _-_, _*_, _≤_}
 use native.Mathlib.Omega.{arith}
@@ -16,11 +16,10 @@ use Rattle.archive.specs.declared.Asked.{Asked}
 use Rattle.fields.proofs.Answers.{with-gives, with-refuses, answer-fails}
 use Rattle.header.specs.declared.ArchiveHeader.{ArchiveHeader}
 use Rattle.descriptor.specs.declared.GridDescriptor.{GridDescriptor}
-use Rattle.forms.specs.Forms.{isPacked}
 use Rattle.forms.specs.declared.Coding.{Coding}
 use Rattle.transform.specs.Transform.{transform}
 use Rattle.transform.specs.declared.Map.{Map}
-use Rattle.nodes.specs.Inner.{endOf}
+use Rattle.fields.specs.Inner.{endOf}
 use Rattle.roots.specs.Roots.{treeHeadField}
 use Rattle.roots.specs.declared.TreeHead.{TreeHead}
 use Rattle.tree.specs.Topology.{Node5, rootsField}
@@ -128,10 +127,10 @@ content-parts s h d = through _ _ _ _ λ map p e. through _ _ _ _ λ head q e. t
 
 -- where the descriptor's checks pass, the grid is its content
 pub grid-parts :
-    (s : List ℕ) (h : ArchiveHeader) (d : GridDescriptor) → true ≡ isFloatTree (d .kind) → true ≡ eqb (d .«instance_parent» .len) 0 → true ≡ not (isPacked (d .compression)) →
+    (s : List ℕ) (h : ArchiveHeader) (d : GridDescriptor) → true ≡ isFloatTree (d .kind) → true ≡ eqb (d .«instance_parent» .len) 0 →
     readContent s h d ≡ readGrid s h d
 unfolding readContent readGrid gridField
-grid-parts s h d a b e = ap (λ (m : Parse Grid). then m (λ g n. got (contentOf s g) n)) (check-passes 12 a (check-passes 13 b (check-passes 6 e refl)))
+grid-parts s h d a b = ap (λ (m : Parse Grid). then m (λ g n. got (contentOf s g) n)) (check-passes 12 a (check-passes 13 b refl))
 
 -- the place after no record is made of what a grid's content has
 pub opened-so : (s : List ℕ) (g : Grid) → openedOf s g ≡ openedBy (contentOf s g)

@@ -1,7 +1,7 @@
 -- Sections 7 and 8: opening a grid.
 use Prim.Native.Nat.{ℕ}
 use mathlib.Core.List.{List, []}
-use mathlib.Core.Bool.{Bool, true, false, not}
+use mathlib.Core.Bool.{Bool, true, false}
 use lib.Dec.{eqb}
 use lib.ListN.{length}
 use Rattle.fields.specs.Parse.{Parse, got, then, check}
@@ -18,7 +18,6 @@ use Rattle.archive.specs.declared.Asked.the-variants as A
 use Rattle.transform.specs.Transform.{transform}
 use Rattle.transform.specs.declared.Map.{Map}
 use Rattle.coordinates.specs.declared.GlobalCoord.{GlobalCoord}
-use Rattle.forms.specs.Forms.{isPacked}
 use Rattle.forms.specs.declared.Coding.{Coding}
 use Rattle.roots.specs.Roots.{treeHeadField}
 use Rattle.roots.specs.declared.TreeHead.{TreeHead}
@@ -89,13 +88,12 @@ contentField s h d =
       blocksEnd = v;
     }) v
 
--- and before these checks 12, 13 and 6, of the descriptor
+-- and before these checks 12 and 13, of the descriptor
 unfoldable pub gridField : List ℕ → ArchiveHeader → GridDescriptor → Parse Grid
 gridField s h d =
     check (isFloatTree (d .kind)) 12
     (check (eqb (d .«instance_parent» .len) 0) 13
-    (check (not (isPacked (d .compression))) 6
-    (contentField s h d)))
+    (contentField s h d))
 
 -- the grid that is asked for, by its name or its number from 0: the file is opened first, then comes check 11
 unfoldable pub grid : List ℕ → Asked → List ℕ → Answer Grid

@@ -13,9 +13,9 @@ use archive::FoundGrid;
 use descriptor::GridDescriptor;
 use descriptor::HalfEntry;
 use descriptor::TreeKind;
+use fields::EndField;
 use forms::Coding;
 use header::ArchiveHeader;
-use nodes::EndField;
 use place::Place;
 use place::Start;
 use roots::TreeHead;
@@ -192,9 +192,6 @@ fn read_grid(s: &[u8], h: ArchiveHeader, d: GridDescriptor) -> ContentAnswer
     }
     if parent.len != 0 {
         return ContentAnswer::Refused(13);
-    }
-    if forms::is_packed(d.compression) {
-        return ContentAnswer::Refused(6);
     }
     read_content(s, h, d)
 }

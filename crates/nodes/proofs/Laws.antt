@@ -1,5 +1,5 @@
 -- Laws of the definitions, by which the functions' proofs go.
-use mathlib.Core.Path.{_≡_, refl, sym, ap}
+use mathlib.Core.Path.{_≡_, refl, sym, ap, _∙_}
 use mathlib.Core.List.{List}
 use mathlib.Core.Bool.{Bool, true, false}
 use Prim.Native.Nat.{ℕ, suc, _+_, _-_, _*_, _%_, _^_, _≤_, _<_}
@@ -12,8 +12,9 @@ use mir.Syntax.{w32}
 use mir.Val.{ofZ}
 use borrow.Author.Tests.{eq-eqb, ne-eqb, eqb-true, eqb-false, not-true}
 use Rattle.fields.specs.Parse.{Parse, got, fails, then}
+use Rattle.fields.specs.Inner.{endOf}
 use Rattle.fields.specs.declared.Span.{Span}
-use Rattle.fields.proofs.Laws.{through, check-then, field-back, Always, then-always, check-always, got-always}
+use Rattle.fields.proofs.Laws.{then-got, through, made-then, check-then, field-back, Always, then-always, check-always, got-always}
 use Rattle.half.specs.Inner.{isWidth}
 use Rattle.masks.specs.Inner.{IsMask}
 use Rattle.masks.specs.Masks.{maskBit, countBelow, overlap, agree}
@@ -26,7 +27,7 @@ use Rattle.runs.proofs.Laws.{values-held}
 use Rattle.runs.proofs.Agree.{values-ends}
 pub use Rattle.forms.proofs.Laws.{whole-mask}
 use Rattle.nodes.specs.Nodes.{nodeField, blockField}
-use Rattle.nodes.specs.Inner.{blockHead, endOf}
+use Rattle.nodes.specs.Inner.{blockHead}
 use Rattle.nodes.specs.declared.NodeHeader.{NodeHeader}
 use Rattle.nodes.specs.declared.Leaf.{Leaf}
 use Rattle.nodes.specs.declared.Block.{Block}
@@ -74,6 +75,13 @@ unfolding blockHead
 head-back s version l at = then-always _ _ _ λ w p e. check-always _ _ _ _ λ ok u q f.
     let g : w .start ≡ at = ap (λ (w : Span). w .start) (field-back s at 64 _ e .1) in
     (rw g at (whole-mask s at 64 refl (lit≤ tt) e), ap length (agree-ones _ _ 512 (rw g at ok)))
+
+-- the block's end is that of its values
+pub block-end :
+    (s : List ℕ) (c : Coding) (l : Leaf) (at : ℕ) {p : ℕ} → got tt p ≡ blockHead s (c .version) l at →
+    endOf (valuesField s c EveryPlace 64 at at p) ≡ endOf (blockField s c l at)
+unfolding endOf
+block-end s c l at e = rw (block-parts s c l at) (sym (made-then _ _ _) ∙ ap (λ (m : Parse Block). then m (λ b q. got tt q)) (then-got _ e refl))
 
 -- the way back from a parse's end
 module _ {A : Type 0} where

@@ -10,8 +10,6 @@ use Rattle.nodes.specs.declared.NodeHeader.{NodeHeader}
 use Rattle.nodes.specs.declared.Block.{Block}
 use Rattle.nodes.specs.declared.NodeField.{NodeField}
 use Rattle.nodes.specs.declared.NodeField.the-variants.{Got as GotNode, Refused as RefusedNode}
-use Rattle.nodes.specs.declared.EndField.{EndField}
-use Rattle.nodes.specs.declared.EndField.the-variants.{Got as GotEnd, Refused as RefusedEnd}
 use Rattle.nodes.specs.declared.BlockField.{BlockField}
 use Rattle.nodes.specs.declared.BlockField.the-variants.{Got as GotBlock, Refused as RefusedBlock}
 
@@ -22,18 +20,10 @@ blockHead s version leaf at =
     check (agree (maskBit s (mask .start)) (maskBit s (leaf .mask)) 512) 20
     (oldField s version (leaf .origin) p)
 
--- a parse of which only the end is kept
-unfoldable pub endOf : {A : Type 0} → Parse A → Parse Unit
-endOf m = then m λ a n. got tt n
-
 -- What each answer of the code says.
 abbrev pub saysNode : NodeField → Parse NodeHeader
 saysNode (GotNode h n) = got h n
 saysNode (RefusedNode k) = fails k
-
-abbrev pub saysEnd : EndField → Parse Unit
-saysEnd (GotEnd n) = got tt n
-saysEnd (RefusedEnd k) = fails k
 
 abbrev pub saysBlock : BlockField → Parse Block
 saysBlock (GotBlock b n) = got b n

@@ -1,12 +1,14 @@
 // Document 01, sections 4 and 6: a node's masks and stored values, and a leaf's block.
 ghost use mathlib.Core.Path.{_≡_};
 ghost use Prim.Native.Nat.{_≤_, _%_};
+ghost use Rattle.fields.specs.Inner.{endOf, saysEnd};
 ghost use Rattle.half.specs.Inner.{isWidth};
 ghost use Rattle.masks.specs.Masks.{maskBit, countBelow};
 ghost use Rattle.masks.specs.Inner.{IsMask};
 ghost use Rattle.nodes.specs.Nodes.{nodeField, leafBuffersField, oldField, blockField};
-ghost use Rattle.nodes.specs.Inner.{blockHead, endOf, saysNode, saysEnd, saysBlock};
+ghost use Rattle.nodes.specs.Inner.{blockHead, saysNode, saysBlock};
 use coordinates::GlobalCoord;
+use fields::EndField;
 use fields::IVec3Field;
 use fields::SpanField;
 use fields::U8Field;
@@ -37,12 +39,6 @@ pub struct Block {
 
 pub enum NodeField {
     Got(NodeHeader, usize),
-    Refused(u32),
-}
-
-// Where something ends.
-pub enum EndField {
-    Got(usize),
     Refused(u32),
 }
 
@@ -163,11 +159,6 @@ pub fn pass_block(s: &[u8], c: Coding, leaf: Leaf, ones: usize, at: usize) -> En
 {
     match read_block_head(s, c.version, leaf, at) {
         EndField::Refused(k) => EndField::Refused(k),
-        EndField::Got(p) => {
-            match runs::read_counted(s, c, Stored::Every, 64, at, at, ones, p) {
-                ValuesField::Refused(k) => EndField::Refused(k),
-                ValuesField::Got(_, q) => EndField::Got(q),
-            }
-        }
+        EndField::Got(p) => runs::pass_values(s, c, Stored::Every, 64, at, at, ones, p),
     }
 }

@@ -69,7 +69,7 @@ map-held K.Other s at = λ map n e. let z : _≡_ {A = ℕ} 0 1 = cc in absurd (
 grid-held : (s : List ℕ) (h : ArchiveHeader) (d : GridDescriptor) → Always (λ g v. Held s (g .map) (g .mapEnd)) (gridField s h d)
 unfolding gridField contentField transform
 grid-held s h d =
-    check-always _ _ _ _ λ a. check-always _ _ _ _ λ b. check-always _ _ _ _ λ e. then-always _ _ _ λ map q f. then-always _ _ _ λ head r g.
+    check-always _ _ _ _ λ a. check-always _ _ _ _ λ b. then-always _ _ _ λ map q f. then-always _ _ _ λ head r g.
     then-always _ _ _ λ roots t i. then-always _ _ _ λ filled v x.
     got-always _ _ _ (then-always _ _ _ (λ kind p y. map-held kind s p) map q f)
 

@@ -5,11 +5,11 @@ mod layers;
 
 use asking::line;
 
-fn run(t: &[u8; 262144], len: usize, f: &mut [u8; 262144]) {
+fn run(t: &[u8; 524288], len: usize, f: &mut [u8; 262144]) {
     let mut m = line::empty(0);
     let mut n = [0u64; 8];
     for i in 0..len {
-        let c = t[i % 262144];
+        let c = t[i % 524288];
         if c == b'\n' {
             layers::ask(m.command, line::file(m, f), &n);
             m = line::end(m.command, m.len, f, &mut n);
@@ -20,7 +20,7 @@ fn run(t: &[u8; 262144], len: usize, f: &mut [u8; 262144]) {
 }
 
 fn main() {
-    let mut t = [0u8; 262144];
+    let mut t = [0u8; 524288];
     let mut f = [0u8; 262144];
     let len = line::input(&mut t);
     run(&t, len, &mut f);

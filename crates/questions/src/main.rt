@@ -16,11 +16,11 @@ fn answer(m: Line, f: &mut [u8; 262144], kept: &mut [u8; 262144], n: &mut [u64; 
     line::end(m.command, len, f, n)
 }
 
-fn run(t: &[u8; 262144], len: usize, f: &mut [u8; 262144], kept: &mut [u8; 262144]) {
+fn run(t: &[u8; 524288], len: usize, f: &mut [u8; 262144], kept: &mut [u8; 262144]) {
     let mut m = line::empty(0);
     let mut n = [0u64; 8];
     for i in 0..len {
-        let c = t[i % 262144];
+        let c = t[i % 524288];
         if c == b'\n' {
             m = answer(m, f, kept, &mut n);
         } else {
@@ -30,7 +30,7 @@ fn run(t: &[u8; 262144], len: usize, f: &mut [u8; 262144], kept: &mut [u8; 26214
 }
 
 fn main() {
-    let mut t = [0u8; 262144];
+    let mut t = [0u8; 524288];
     let mut f = [0u8; 262144];
     let mut kept = [0u8; 262144];
     let len = line::input(&mut t);

@@ -7,20 +7,20 @@ use native.Mathlib.Omega.{arith}
 use lib.ListN.{length}
 use Rattle.fields.specs.Parse.{got}
 use Rattle.fields.proofs.Laws.{Always, then-always, got-always}
-use Rattle.fields.proofs.Agree.{Same, Known, Tells, got-tells, then-tells, swap-tells, part-tells, keep, SameFor}
+use Rattle.fields.proofs.Agree.{reads, Same, Known, Tells, got-tells, then-tells, then-plain, swap-tells, part-tells, keep, SameFor}
 use Rattle.masks.proofs.Laws.{ones-ext}
 use Rattle.masks.proofs.Agree.{bit-same}
 use Rattle.forms.specs.declared.Coding.{Coding}
 use Rattle.forms.specs.declared.Stored.{Stored}
 use Rattle.forms.specs.declared.Stored.the-variants.{Every, Active, Childless}
 use Rattle.forms.proofs.Agree.{SameSelection, head-tells}
-use Rattle.runs.specs.Runs.{isStored, numberOf, countOf, runField, valuesField}
+use Rattle.runs.specs.Runs.{isStored, numberOf, countOf, sizeChecked, numberField, runField, valuesField}
 use Rattle.runs.specs.declared.Values.{Values}
 use Rattle.runs.proofs.Laws.{run-back}
 
 run-tells : {s t : List ℕ} {lo at : ℕ} (c : Coding) (count : ℕ) → Tells s t lo at (λ w. SameFor s t (count * c .width) (w .start)) (runField s c count at) (runField t c count at)
-unfolding runField
-run-tells c count = part-tells (count * c .width)
+unfolding runField numberField sizeChecked
+run-tells c count = then-plain (search reads) λ u p e. part-tells (count * c .width)
 
 -- which places are stored is the same where the masks are, and so are the numbers and the count
 module _ {s t : List ℕ} {child value : ℕ} (n : ℕ) (g : SameFor s t n child) (h : SameFor s t n value) where

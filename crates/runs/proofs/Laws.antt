@@ -5,9 +5,10 @@ use mathlib.Core.Bool.{Bool, true, false, not, false≢true}
 use Prim.Native.Nat.{ℕ, zero, suc, _+_, _*_, _≤_, _<_}
 use native.Mathlib.Omega.{arith}
 use lib.ListN.{length}
-use Rattle.fields.specs.Parse.{got, when}
+use Rattle.fields.specs.Parse.{got, then, when}
+use Rattle.fields.specs.Inner.{endOf}
 use Rattle.fields.specs.declared.Span.{Span}
-use Rattle.fields.proofs.Laws.{field-back, Always, then-always, got-always}
+use Rattle.fields.proofs.Laws.{through, made-then, field-back, then-back, Always, then-always, got-always}
 use Rattle.half.specs.Inner.{isWidth}
 use Rattle.masks.specs.Masks.{maskBit, countBelow, overlap}
 use Rattle.masks.specs.Inner.{IsMask}
@@ -17,7 +18,7 @@ use Rattle.forms.specs.declared.Coding.{Coding}
 use Rattle.forms.specs.declared.Stored.{Stored}
 use Rattle.forms.specs.declared.Stored.the-variants.{Every, Active, Childless}
 use Rattle.forms.proofs.Laws.{head-held}
-use Rattle.runs.specs.Runs.{isStored, runField, valuesField}
+use Rattle.runs.specs.Runs.{isStored, countOf, runField, valuesField}
 use Rattle.runs.specs.Inner.{Held}
 use Rattle.runs.specs.declared.Values.{Values}
 
@@ -36,7 +37,8 @@ pub run-back :
     (w .start + count * c .width ≤ length s) × (e ≡ w .start + count * c .width)
 unfolding runField
 run-back c count s at e =
-    let b = field-back s at (count * c .width) _ e in
+    let y = then-back _ _ e in
+    let b = field-back s (y .1) (count * c .width) _ (y .3) in
     let m = ap (λ (x : Span). x .start) (b .1) in
     (rw m (b .0), rw m (b .2))
 
@@ -49,6 +51,13 @@ values-held c old s n child value at {v} {e} a b w = read v e
     read : Always (λ v e. Held s c n child value v) (valuesField s c old n child value at)
     read = then-always _ _ _ λ head p f. then-always _ _ _ λ run q g. got-always _ _ _
         (record { width = w; child-mask = a; value-mask = b; selection-mask = head-held c old s n at (b .words) (b .small) head p f; run = run-back c _ s p g .0 })
+
+-- where values end, without what they are
+pub values-end :
+    (c : Coding) (old : Stored) (s : List ℕ) (n child value at : ℕ) →
+    then (headField s c old n at) (λ head p. then (runField s c (countOf s (head .stored) n child value) p) (λ run e. got tt e)) ≡ endOf (valuesField s c old n child value at)
+unfolding valuesField endOf
+values-end c old s n child value at = through _ _ _ _ λ head p e. sym (made-then _ _ _)
 
 -- An active place is stored: in a node where no place has both child and value bit, and in a leaf.
 active-stored :

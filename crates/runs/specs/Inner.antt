@@ -3,16 +3,23 @@ use Prim.Native.Nat.{ℕ, _+_, _*_, _≤_}
 use mathlib.Core.List.{List}
 use lib.ListN.{length}
 use Rattle.fields.specs.Parse.{Parse, got, fails}
+use Rattle.fields.specs.declared.Span.{Span}
 use Rattle.masks.specs.Inner.{IsMask}
 use Rattle.half.specs.Inner.{isWidth}
 use Rattle.forms.specs.Inner.{selectionHeld}
 use Rattle.forms.specs.declared.Coding.{Coding}
 use Rattle.runs.specs.Runs.{countOf}
 use Rattle.runs.specs.declared.Values.{Values}
+use Rattle.runs.specs.declared.RunField.{RunField}
+use Rattle.runs.specs.declared.RunField.the-variants.{Got as GotRun, Refused as RefusedRun}
 use Rattle.runs.specs.declared.ValuesField.{ValuesField}
 use Rattle.runs.specs.declared.ValuesField.the-variants.{Got as GotValues, Refused as RefusedValues}
 
--- what the code's answer says
+-- What each answer of the code says.
+abbrev pub saysRun : RunField → Parse Span
+saysRun (GotRun w n) = got w n
+saysRun (RefusedRun k) = fails k
+
 abbrev pub saysValues : ValuesField → Parse Values
 saysValues (GotValues v n) = got v n
 saysValues (RefusedValues k) = fails k

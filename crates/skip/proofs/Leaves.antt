@@ -18,7 +18,7 @@ use Rattle.masks.specs.Inner.{nextOne, IsMask}
 use Rattle.masks.proofs.Laws.{next-lt, agree-ones}
 use Rattle.forms.specs.declared.Coding.{Coding}
 use Rattle.nodes.specs.Nodes.{blockField}
-use Rattle.nodes.specs.Inner.{endOf}
+use Rattle.fields.specs.Inner.{endOf}
 use Rattle.nodes.specs.declared.Block.{Block}
 use Rattle.nodes.proofs.Laws.{block-back, end-back}
 use Rattle.tree.specs.Active.{leafPiece}

@@ -17,10 +17,10 @@ use cursor::Cursor;
 use cursor::Entered;
 use cursor::NextPiece;
 use cursor::Piece;
+use fields::EndField;
 use fields::SpanField;
 use forms::Coding;
 use masks::NextOne;
-use nodes::EndField;
 use nodes::Leaf;
 use nodes::NodeField;
 

@@ -18,7 +18,7 @@ use Rattle.masks.specs.Inner.{nextOne}
 use Rattle.masks.proofs.Laws.{next-none, next-some}
 use Rattle.forms.specs.declared.Coding.{Coding}
 use Rattle.nodes.specs.Nodes.{nodeField}
-use Rattle.nodes.specs.Inner.{endOf}
+use Rattle.fields.specs.Inner.{endOf}
 use Rattle.nodes.specs.declared.NodeHeader.{NodeHeader}
 use Rattle.nodes.proofs.Laws.{node-back, end-back, end-fails}
 use Rattle.roots.specs.Roots.{originField}

@@ -1,12 +1,12 @@
--- A refusal has a number from 1 to 22, so a call that returns 0 was not refused: it gave an answer, and what was lent holds its words. So what a caller
+-- A refusal has a number of the table, so a call that returns 0 was not refused: it gave an answer, and what was lent holds its words. So what a caller
 -- in another language sees is enough for `walks`.
 use mathlib.Core.Path.{_≡_, refl, sym, ap, _∙_}
 use mathlib.Core.List.{List, [], _∷_, _++_}
-use mathlib.Core.Bool.{Bool, true, false, _&&_, true≢false}
+use mathlib.Core.Bool.{Bool, true, false, _&&_, _||_, true≢false}
 use mathlib.Core.Option.{Option, none, some}
 use Prim.Native.Nat.{ℕ, zero, suc, _-_}
 use native.Mathlib.Omega.{arith}
-use lib.Dec.{ltb, leb}
+use lib.Dec.{ltb, leb, eqb}
 use lib.ListN.{take}
 use Rattle.fields.specs.Parse.{Parse, got, fails, then, when, check, field, many}
 use Rattle.fields.specs.Fields.{stringField}
@@ -27,7 +27,7 @@ use Rattle.transform.specs.declared.MapKind.{MapKind}
 use Rattle.transform.specs.declared.MapKind.the-variants as MK
 use Rattle.coordinates.specs.declared.GlobalCoord.{GlobalCoord}
 use Rattle.forms.specs.Forms.{formSelected, formField, inactiveField, selectionField, inactivesField, headField}
-use Rattle.runs.specs.Runs.{runField, valuesField}
+use Rattle.runs.specs.Runs.{sizeChecked, numberField, runField, valuesField}
 use Rattle.forms.specs.declared.Coding.{Coding}
 use Rattle.forms.specs.declared.Form.{Form}
 use Rattle.forms.specs.declared.Stored.{Stored}
@@ -52,9 +52,9 @@ use Rattle.grid_calls.specs.Calls.{openWords, walkWords, OpenCall, WalkCall}
 use Rattle.vdb.specs.Calls.{WordCall, Chained, Walks}
 use Rattle.vdb.proofs.Calls.{walks}
 
--- a number of section 8's table
+-- a number of section 8's table, to which N3 adds 25
 abbrev pub inTable : ℕ → Bool
-inTable k = ltb 0 k && leb k 22
+inTable k = ltb 0 k && (leb k 22 || eqb k 25)
 
 -- a parse, and an answer, whose refusals have such a number
 abbrev pub Numbered : {A : Type 0} → Parse A → Type 0
@@ -232,9 +232,13 @@ head-n : (s : List ℕ) (c : Coding) (old : Stored) (n at : ℕ) → Numbered (h
 unfolding headField
 head-n s c old n at = then-n _ _ (form-n s _ at) λ form p. then-n _ _ (inactives-n s form n p) λ i q. tt
 
+number-n : (s : List ℕ) (c : Coding) (count at : ℕ) → Numbered (numberField s c count at)
+unfolding numberField sizeChecked
+number-n s c count at = when-n _ _ _ (then-n _ _ (field-n s 8 _ at) λ n p. check-n _ 6 _ refl (check-n _ 25 _ refl tt)) tt
+
 run-n : (s : List ℕ) (c : Coding) (count at : ℕ) → Numbered (runField s c count at)
 unfolding runField
-run-n s c count at = field-n s _ _ at
+run-n s c count at = then-n _ _ (number-n s c count at) λ u p. field-n s _ _ p
 
 values-n : (s : List ℕ) (c : Coding) (old : Stored) (n child value at : ℕ) → Numbered (valuesField s c old n child value at)
 unfolding valuesField
@@ -321,7 +325,7 @@ content-n s h d =
 
 grid-field-n : (s : List ℕ) (h : ArchiveHeader) (d : GridDescriptor) → Numbered (gridField s h d)
 unfolding gridField
-grid-field-n s h d = check-n _ 12 _ refl (check-n _ 13 _ refl (check-n _ 6 _ refl (content-n s h d)))
+grid-field-n s h d = check-n _ 12 _ refl (check-n _ 13 _ refl (content-n s h d))
 
 answer-n : {A : Type 0} (m : Parse A) → Numbered m → Answers (answer m)
 unfolding answer
@@ -380,7 +384,7 @@ pub data Question (s : List ℕ) : (A : Type 0) → Answer A → Type 1 where
   fill-leaves : (asked : Asked) (name : List ℕ) (first slots : ℕ) → Question s (List ℕ) (fillLeaves s asked name first slots)
   leaf-origins : (asked : Asked) (name : List ℕ) (first nx ny nz : ℕ) → Question s Axes (leafOrigins s asked name first nx ny nz)
 
--- A refusal of any of them has a number from 1 to 22.
+-- A refusal of any of them has a number of the table.
 pub numbered : {s : List ℕ} {A : Type 0} {m : Answer A} → Question s A m → Answers m
 unfolding fileEntry gridEntry openGrid fillLeaf fillLeaves leafOrigins
 numbered {s} open-file = open-file-n s

@@ -53,6 +53,19 @@ pub fn a_with(at: usize, bytes: &[u8]) -> Vec<u8> {
     put(case_a(), at, bytes)
 }
 
+/// Case A with these flags, and numbers before its runs: the empty ones of its 5-node and its 4-node, and its value. Stored raw are the runs of A with
+/// 0, 0 and -4 (document 02, N3).
+pub fn a_numbered(flags: u32, numbers: [i64; 3]) -> Vec<u8> {
+    let mut file = a_with(118, &flags.to_le_bytes());
+    for (at, number) in [8479, 9504, 9633].into_iter().zip(numbers).rev() {
+        file.splice(at..at, number.to_le_bytes());
+    }
+    for (at, position) in [(102, 9584), (110, 9661u64)] {
+        file[at..at + 8].copy_from_slice(&position.to_le_bytes());
+    }
+    file
+}
+
 /// `half_active.vdb`, whose type ends in `_HalfFloat` and whose half entry is true, and the same with another entry in its place; with each how wide
 /// values are then.
 pub fn half_entries() -> Vec<(&'static str, Vec<u8>, u32)> {
@@ -67,7 +80,8 @@ pub fn half_entries() -> Vec<(&'static str, Vec<u8>, u32)> {
     ]
 }
 
-/// The examples of document 01's table in section 8 that are files, by the number of their check; 1, 11, 21 and 22 are no files of A's size.
+/// The examples of document 01's table in section 8 that are files, by the number of their check; 1, 11, 21 and 22 are no files of A's size. 25 is that
+/// of document 02, N3.
 pub fn refused_files() -> Vec<(u32, Vec<u8>)> {
     let word = |at, n: u32| a_with(at, &n.to_le_bytes());
     // Twice "d": a second descriptor at the end of the first.
@@ -107,6 +121,7 @@ pub fn refused_files() -> Vec<(u32, Vec<u8>)> {
         (18, a_with(4382 + 132, &[both])),
         (19, a_with(8478, &[7])),
         (20, a_with(9568, &[0; 64])),
+        (25, word(118, 1)),
     ]
 }
 

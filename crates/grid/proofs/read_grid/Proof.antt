@@ -1,7 +1,6 @@
--- Checks 12, 13 and 6 in their order, and then the content.
+-- Checks 12 and 13 in their order, and then the content.
 use borrow.Author.Needs.{needs}
 use borrow.Author.Tests.{eq-eqb, ne-eqb, not-true, not-false}
-use mathlib.Core.Bool.{not}
 use mathlib.Core.Path.{sym, ap, _∙_}
 use Rattle.fields.proofs.Laws.{then-fails, check-passes, check-fails}
 use Rattle.fields.specs.Answer.{answer}
@@ -24,23 +23,14 @@ returns-2 c =
     answer-fails (then-fails _ (check-passes _ a (check-fails _ (sym (ne-eqb _ _ (c .if2 .taken))))))
 
 returns-3 : tie.Need-returns-3
-unfolding readGrid gridField
 returns-3 c =
-    let t = c .before .before .before .before in
-    let a = sym (not-false _ (t .if1 .left)) ∙ t .before .is-float-tree .ensures in
-    let b = sym (eq-eqb _ _ (c .before .before .if2 .left)) in
-    answer-fails (then-fails _ (check-passes _ a (check-passes _ b (check-fails _ (ap not (sym (c .if3 .taken) ∙ c .before .is-packed .ensures))))))
-
-returns-4 : tie.Need-returns-4
-returns-4 c =
     let p = c .before in
-    let t = p .before .before .before .before in
+    let t = p .before .before in
     let a = sym (not-false _ (t .if1 .left)) ∙ t .before .is-float-tree .ensures in
-    let b = sym (eq-eqb _ _ (p .before .before .if2 .left)) in
-    let e = ap not (sym (p .if3 .left) ∙ p .before .is-packed .ensures) in
-    c .read-content .ensures ∙ ap answer (grid-parts _ _ _ a b e)
+    let b = sym (eq-eqb _ _ (p .if2 .left)) in
+    c .read-content .ensures ∙ ap answer (grid-parts _ _ _ a b)
 
 pub read-grid-spec : {M : Type 1} → statement M
 read-grid-spec =
     tie.close
-    (tie.spec (λ c κs. search needs) returns returns-2 (λ c κs. search needs) returns-3 (λ c κs. search needs) returns-4)
+    (tie.spec (λ c κs. search needs) returns returns-2 (λ c κs. search needs) returns-3)

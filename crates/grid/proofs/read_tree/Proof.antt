@@ -3,7 +3,7 @@ use borrow.Author.Needs.{needs}
 use mathlib.Core.Path.{_≡_, ap, _∙_}
 use Rattle.fields.proofs.Laws.{told}
 use Rattle.fields.specs.Answer.{gives, answer}
-use Rattle.nodes.specs.Inner.{saysEnd}
+use Rattle.fields.specs.Inner.{saysEnd}
 use Rattle.skip.specs.Inner.{saysSkip}
 use Rattle.skip.specs.declared.Skipped.{Skipped}
 use Rattle.grid.specs.Inner.{contentWith, readTree}

@@ -1,10 +1,9 @@
 -- The block's two parts, as the calls found them. The count given is the topology's mask's, and so the block's.
 use borrow.Author.Needs.{needs}
-use mathlib.Core.Path.{refl, sym, _∙_}
-use Rattle.fields.proofs.Laws.{then-got, then-fails, told}
-use Rattle.runs.specs.Inner.{saysValues}
-use Rattle.nodes.specs.Inner.{endOf, saysEnd}
-use Rattle.nodes.proofs.Laws.{block-parts, head-back}
+use mathlib.Core.Path.{sym, _∙_}
+use Rattle.fields.specs.Inner.{endOf, saysEnd}
+use Rattle.fields.proofs.Laws.{then-fails, told}
+use Rattle.nodes.proofs.Laws.{block-parts, block-end, head-back}
 use Rattle.nodes.proofs.pass_block.Statement.{statement}
 use Rattle.nodes.proofs.pass_block.Tie as tie
 
@@ -16,13 +15,5 @@ pass-block-spec =
     (λ c κs. search needs) (λ c. search needs) (λ c. search needs)
     (λ c κs. let h = head-back _ _ _ _ _ _ (told saysEnd (c .before .p .given .1) (c .before .before .before .read-block-head .ensures)) in
     let p = c .before .before .before .before .before .pre in (h .0, h .0, p .1, p .2 ∙ sym (h .1)))
-    (λ c. search needs) (λ c. search needs)
     (λ c. rw (block-parts _ _ _ _) (then-fails _ (then-fails _ (told saysEnd (c .before .k .given .1) (c .before .before .before .read-block-head .ensures)))))
-    (λ c. let h = c .before .before .before .before .before in
-    rw (block-parts _ _ _ _)
-    (then-fails _ (then-got _ (told saysEnd (h .p .given .1) (h .before .before .read-block-head .ensures))
-    (then-fails _ (told saysValues (c .before .k2 .given .1) (c .before .before .before .read-counted .ensures))))))
-    (λ c. let h = c .before .before .before .before .before in
-    rw (block-parts _ _ _ _)
-    (then-got _ (then-got _ (told saysEnd (h .p .given .1) (h .before .before .read-block-head .ensures))
-    (then-got _ (told saysValues (c .before .q .given .1) (c .before .before .before .read-counted .ensures)) refl)) refl)))
+    (λ c. let h = c .before .before in c .pass-values .ensures ∙ block-end _ _ _ _ (told saysEnd (h .p .given .1) (h .before .before .read-block-head .ensures))))

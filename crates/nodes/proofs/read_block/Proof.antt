@@ -3,7 +3,7 @@ use borrow.Author.Needs.{needs}
 use mathlib.Core.Path.{refl}
 use Rattle.fields.proofs.Laws.{then-got, then-fails, told}
 use Rattle.runs.specs.Inner.{saysValues}
-use Rattle.nodes.specs.Inner.{saysEnd}
+use Rattle.fields.specs.Inner.{saysEnd}
 use Rattle.nodes.proofs.Laws.{block-parts, head-back}
 use Rattle.nodes.proofs.read_block.Statement.{statement}
 use Rattle.nodes.proofs.read_block.Tie as tie

@@ -10,7 +10,7 @@ use Rattle.fields.specs.Says.{saysSpan}
 use Rattle.fields.proofs.Laws.{told}
 use Rattle.masks.specs.Masks.{maskBit}
 use Rattle.masks.specs.Inner.{nextOne, saysNext}
-use Rattle.nodes.specs.Inner.{saysEnd}
+use Rattle.fields.specs.Inner.{saysEnd}
 use Rattle.nodes.proofs.Laws.{whole-mask}
 use Rattle.skip.specs.Inner.{LeavesRan}
 use Rattle.skip.proofs.Leaves.{begins, child-mask, multiple, place-below, leaf-on}

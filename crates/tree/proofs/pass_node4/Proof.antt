@@ -7,7 +7,8 @@ use Rattle.fields.specs.Fields.{bytesField}
 use Rattle.fields.specs.Says.{saysSpan}
 use Rattle.fields.proofs.Laws.{then-got, then-fails, told}
 use Rattle.coordinates.specs.declared.GlobalCoord.{GlobalCoord}
-use Rattle.nodes.specs.Inner.{endOf, saysNode}
+use Rattle.fields.specs.Inner.{endOf}
+use Rattle.nodes.specs.Inner.{saysNode}
 use Rattle.nodes.proofs.Laws.{node-back}
 use Rattle.tree.specs.Topology.{node4Field}
 use Rattle.tree.proofs.Passing.{end-refused, node4-passed}

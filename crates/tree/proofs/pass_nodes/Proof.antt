@@ -11,7 +11,7 @@ use Rattle.coordinates.specs.declared.GlobalCoord.{GlobalCoord}
 use Rattle.masks.specs.Masks.{maskBit, ones, onesFrom}
 use Rattle.masks.specs.Inner.{nextOne, saysNext}
 use Rattle.masks.proofs.Laws.{next-lt, next-from}
-use Rattle.nodes.specs.Inner.{endOf, saysEnd}
+use Rattle.fields.specs.Inner.{endOf, saysEnd}
 use Rattle.tree.specs.Topology.{childField}
 use Rattle.tree.proofs.Passing.{ones-none, ones-more, ones-fails}
 use Rattle.tree.proofs.pass_nodes.Statement.{statement}

@@ -10,7 +10,7 @@ use lib.ListN.{length, take, length-set}
 use Rattle.fields.specs.Parse.{got}
 use Rattle.fields.proofs.Laws.{told}
 use Rattle.coordinates.specs.declared.GlobalCoord.{GlobalCoord}
-use Rattle.nodes.specs.Inner.{endOf, saysEnd}
+use Rattle.fields.specs.Inner.{endOf, saysEnd}
 use Rattle.roots.specs.Roots.{originField}
 use Rattle.roots.specs.Inner.{saysOrigin}
 use Rattle.tree.specs.Topology.{rootsField}

@@ -145,16 +145,21 @@ fn text_value(value: MetadataValue, hex: bool) -> String {
     }
 }
 
-/// How values are stored, in words.
-fn stored(descriptor: &GridDescriptor) -> String {
+/// How values are stored, in words. A grid that opens has no packed value, whatever its flags say; of a refused one only the flags are known.
+fn stored(descriptor: &GridDescriptor, opens: bool) -> String {
     let flags = descriptor.compression;
     let values = if flags.contains(Compression::ACTIVE_MASK) { "active values" } else { "all values" };
     let width = if descriptor.value_width == 2 { " as halves" } else { "" };
-    let packed = match (flags.contains(Compression::ZIP), flags.contains(Compression::BLOSC)) {
-        (false, false) => "unpacked",
-        (true, false) => "packed with ZIP",
-        (false, true) => "packed with Blosc",
-        (true, true) => "packed with ZIP and Blosc",
+    let with = match (flags.contains(Compression::ZIP), flags.contains(Compression::BLOSC)) {
+        (false, false) => None,
+        (true, false) => Some("ZIP"),
+        (false, true) => Some("Blosc"),
+        (true, true) => Some("ZIP and Blosc"),
+    };
+    let packed = match with {
+        None => "unpacked".into(),
+        Some(with) if opens => format!("unpacked, though flagged for {with}"),
+        Some(with) => format!("flagged for {with}"),
     };
     format!("{values}{width}, {packed} (flags {})", flags.bits())
 }
@@ -193,7 +198,7 @@ fn text_grid(n: u32, descriptor: &GridDescriptor, found: &Result<Found, ParseErr
     if !descriptor.instance_parent.is_empty() {
         writeln!(out, "  parent      {}", quoted(descriptor.instance_parent))?;
     }
-    writeln!(out, "  stored      {}", stored(descriptor))?;
+    writeln!(out, "  stored      {}", stored(descriptor, found.is_ok()))?;
     match found {
         Err(e) => writeln!(out, "  refused     {}: {}", e.number(), words(*e))?,
         Ok(Found { grid, survey }) => {
