@@ -13,6 +13,7 @@ use borrow.Author.Tests.{lt-leb, lt-ltb}
 use Rattle.coordinates.specs.Coordinates.{sameInt}
 use Rattle.coordinates.proofs.Same.{same-bits}
 
+-- no more than 0, by the test for more
 pub at-most-0 : {z : ℤ} → SFits w64 z → not (ltZ (pos 0) (toZ w64 (ofZ w64 z))) ≡ leZ z (pos 0)
 at-most-0 {z} h = rw (toZ-ofZ w64 z h) (go z)
   where
@@ -21,6 +22,7 @@ at-most-0 {z} h = rw (toZ-ofZ w64 z h) (go z)
     go (pos (suc n)) = rw (lt-ltb 0 (suc n) (omega arith), lt-leb (suc n) 0 (omega arith))
     go (negsuc n) = refl
 
+-- minus as many bytes as a run may have is an i64, and the number is the same when its bits are
 minus : (b : ℕ) → pos 0 -ℤ pos b ≡ negℤ (pos b)
 minus zero = refl
 minus (suc b) = rw (lt-ltb 0 (suc b) (omega arith)) (ap negsuc (omega arith))

@@ -1,4 +1,4 @@
-// Document 01, section 5: which values a node stores, and where their run starts. A node is given by the number n of bytes of each of its masks
+// Document 01, section 5, with N3: which values a node stores, and where their run starts. A node is given by the number n of bytes of each of its masks
 // and by where these stand: its child mask at `child`, its value mask at `value`. A leaf has no child mask; nothing of a leaf is looked up there,
 // and its value mask's position stands in.
 ghost use mathlib.Core.Path.{_≡_};
