@@ -100,7 +100,7 @@ static void measure(const std::string& path)
     print_number("sum", by_leaves(*grid));
     print_time("openvdb_by_leaves", from);
     from = start();
-    print_number("openvdb_leaf_sum", leaf_values(*grid));
+    print_number("leaf_sum", leaf_values(*grid));
     print_time("openvdb_leaf_values", from);
 }
 

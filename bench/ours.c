@@ -36,6 +36,7 @@ static size_t records, leaves;
 static struct slots row;      /* as many slots as there are records */
 static struct record *listed; /* the records once more, for the plain loop */
 static uint32_t *filled;      /* 512 slots for each leaf */
+static uint32_t *filled_copy; /* as many, for a memcpy */
 
 /* The compiler must take what p points to as read and written here. */
 static inline void touch(const void *p) { __asm__ volatile("" : : "r"(p) : "memory"); }
@@ -190,6 +191,7 @@ static void prepare(void)
     row = (struct slots){lent(4 * records), lent(4 * records), lent(4 * records), lent(4 * records), lent(4 * records)};
     listed = lent(records * sizeof *listed);
     filled = lent(4 * 512 * leaves);
+    filled_copy = lent(4 * 512 * leaves);
 }
 
 /* Counts and sums, and `listed`. Each way to the records gives its own sum. */
@@ -267,6 +269,10 @@ static void measure(void)
     from = start();
     leaf_origins();
     print_time("leaf_origins", from);
+    from = start();
+    memcpy(filled_copy, filled, 4 * 512 * leaves);
+    touch(filled_copy);
+    print_time("memcpy_slots", from);
     from = start();
     fill_leaves(file);
     print_time("fill_leaves", from);

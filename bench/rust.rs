@@ -119,7 +119,7 @@ fn main() {
         println!("number sum {}", sum(&grid, plain));
         print_time("rust_iterate", from);
         let from = start();
-        println!("number leaf_sum {}", leaf_values(&grid).1);
+        println!("number rust_leaf_sum {}", leaf_values(&grid).1);
         print_time("rust_leaf_values", from);
     }
 }

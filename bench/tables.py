@@ -27,6 +27,9 @@ class Figures:
     def ns_a_record(self, cloud, name):
         return self.ms(cloud, name) * 1e6 / self.number(cloud, 'records')
 
+    def ns_a_leaf(self, cloud):
+        return self.ms(cloud, 'fill_leaves') * 1e6 / self.number(cloud, 'leaves')
+
     def ours_from_file(self, cloud):
         """Opening, walking and adding up, by the faster of two ways: with the file read, and with the file mapped."""
         return min(self.ms(cloud, way) for way in ('whole_read', 'whole_mapped'))
@@ -108,12 +111,13 @@ def readers(f):
 
 
 def leaves(f):
-    head = ['ms', 'one leaf, in the middle', 'the last one', 'all leaves', 'all, ns a leaf', 'OpenVDB', 'Rust', 'OpenVDB / ours', 'Rust / ours', 'origins of all leaves']
+    head = ['ms', 'one leaf, in the middle', 'the last one', 'all leaves', 'all, ns a leaf', 'memcpy of the slots', 'all / memcpy', 'OpenVDB', 'Rust', 'OpenVDB / ours', 'Rust / ours', 'origins of all leaves']
     rows = []
     for c in f.clouds:
         every, other, rust = f.ms(c, 'fill_leaves'), f.ms(c, 'openvdb_read', 'openvdb_leaf_values'), f.ms(c, 'rust_read', 'rust_leaf_values')
-        rows.append([name_of(c), f.ms(c, 'fill_leaf'), f.ms(c, 'fill_last'), every, every * 1e6 / f.number(c, 'leaves'), other, rust, over(other, every),
-                     over(rust, every), f.ms(c, 'leaf_origins')])
+        copied = f.ms(c, 'memcpy_slots')
+        rows.append([name_of(c), f.ms(c, 'fill_leaf'), f.ms(c, 'fill_last'), every, f.ns_a_leaf(c), copied, every / copied, other, rust,
+                     over(other, every), over(rust, every), f.ms(c, 'leaf_origins')])
     return head, rows
 
 
@@ -149,10 +153,18 @@ def targets(f):
     def opened(c):
         return f.ms(c, 'open') / f.ms(c, 'memcpy')
 
-    first = row('opening / memcpy (for floats)', 0.25, opened)
-    first[4:] = [shown(opened(c)) for c in large[2:]]
+    def filled(c):
+        return f.ms(c, 'fill_leaves') / f.ms(c, 'memcpy_slots')
+
+    def for_floats(name, limit, figure):
+        found = row(name + ' (for floats)', limit, figure)
+        found[4:] = [shown(figure(c)) for c in large[2:]]
+        return found
+
+    halves = row('a leaf of halves / a leaf of floats, all in one call', 1.5, lambda c: f.ns_a_leaf(c) / f.ns_a_leaf((c[0], '4', 100)))
+    halves[2:4] = ['', '']
     return ['Target', 'limit'] + [f'{NAMES[kind]}, {NAMES[width]}' for kind, width in KINDS], [
-        first,
+        for_floats('opening / memcpy', 0.25, opened),
         bare('for comparison: the least that opening can cost / memcpy', lambda c: over(f.ms(c, 'least'), f.ms(c, 'memcpy'))),
         row('OpenVDB / ours, both from the file, records added up', 20, lambda c: over(f.openvdb(c), f.ours_from_file(c)), True),
         row('OpenVDB / ours from memory, records in slots, not added up', 20, lambda c: over(f.openvdb(c), f.in_slots(c)), True),
@@ -163,6 +175,8 @@ def targets(f):
         row('a record / the plain loop, 4,096 slots', 3, lambda c: f.ms(c, 'walk_4096') / f.ms(c, 'loop_4096')),
         row('a record / the plain loop, all slots', 3, lambda c: f.ms(c, 'walk_all') / f.ms(c, 'loop_all')),
         row('passing all leaves: (filling the last leaf - opening) / opening', 1.1, lambda c: f.ms(c, 'fill_last') / f.ms(c, 'open') - 1),
+        for_floats('all leaves in one call / memcpy of as many bytes as the slots have', 2.0, filled),
+        halves,
         row('opening: a byte at 100 MB / at 10 MB', 1.2, lambda c: f.growth(c, 'open')),
         row('walking, 4,096 slots: the same', 1.2, lambda c: f.growth(c, 'walk_4096')),
         row('opening, walking, adding up: the same', 1.2, lambda c: f.growth(c, 'whole')),

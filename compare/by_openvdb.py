@@ -1,10 +1,10 @@
 #!/usr/bin/env python3
 """Prints a cloud in the text of README.md, as OpenVDB's own library has it.
 
-    by_openvdb.py DESCRIBE FILE [--document] [--values] [--more]
+    by_openvdb.py DESCRIBE FILE [--values] [--more] [--read]
 
-DESCRIBE is the program that tools/openvdb builds. With --document a leaf's inactive places hold what
-document 01 says, zero where no value is read, and not the background.
+DESCRIBE is the program that tools/openvdb builds. With --read a leaf's places hold zero wherever the file
+brings no value for them, as in the Rust (D38).
 """
 import re
 import subprocess
@@ -30,6 +30,22 @@ def leaves(lines):
         elif words[0] != 'refused':
             grid[-1][1].extend(int(word, 16) for word in words)
     return found
+
+
+class Leaves:
+    """What canonical.items tells of a cloud's leaves in the text with --read, for clouds of any size."""
+
+    def __init__(self, describe, path):
+        self.found, grid = {}, None
+        for line in described(describe, path, 'digests'):
+            word, _, rest = line.partition(' ')
+            if word == 'name':
+                grid = rest.split(' ', 2)[2]
+            elif word == 'leaf':
+                self.found[grid, 'leaf', int(rest.split()[0])] = rest
+
+    def get(self, name):
+        return self.found.get(name)
 
 
 def entry(line):
@@ -98,9 +114,9 @@ def text(lines, filled, values=False, more=False):
 
 
 def main(arguments):
-    side = 'document' if '--document' in arguments else 'openvdb'
+    side = 'read' if '--read' in arguments else 'values'
     describe, path = [word for word in arguments if not word.startswith('--')]
-    sys.stdout.write(text(described(describe, path), described(describe, path, 'values', side),
+    sys.stdout.write(text(described(describe, path), described(describe, path, side),
                           '--values' in arguments, '--more' in arguments))
 
 

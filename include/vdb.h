@@ -151,8 +151,9 @@ uint32_t vdb_walk(const uint8_t *file, size_t file_len, uint64_t place[VDB_PLACE
 /* ---- The leaves ---- */
 
 /*
- * Fills 512 slots with the values of a leaf, by its number from 0: place p of the leaf is x = p / 64, y = p / 8 % 8, z = p % 8. The grid is opened
- * first. 21: there is no such leaf, or `slots_len` is not 512.
+ * Fills 512 slots with the values of a leaf, by its number from 0: place p of the leaf is x = p / 64, y = p / 8 % 8, z = p % 8. An inactive place holds the
+ * value that the file gives for it; where it gives none, the grid's background, or minus the background (its top bit flipped), as in OpenVDB. The grid is
+ * opened first. 21: there is no such leaf, or `slots_len` is not 512.
  */
 uint32_t vdb_fill_leaf_named(const uint8_t *file, size_t file_len, const uint8_t *name, size_t name_len, uint64_t leaf, uint32_t *slots, size_t slots_len);
 uint32_t vdb_fill_leaf_numbered(const uint8_t *file, size_t file_len, uint32_t n, uint64_t leaf, uint32_t *slots, size_t slots_len);

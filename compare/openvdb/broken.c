@@ -87,14 +87,20 @@ static uint32_t opened(uint32_t k, uint64_t *out)
     return k;
 }
 
-/* Whether the grid opened last, whose leaves and records are asked for next, has a packing flag. */
+/* Of the grid opened last, whose leaves and records are asked for next: whether it has a packing flag, the width of its values, its background, how many
+   records it has, and the place before them. */
 static int flagged;
+static uint64_t width, background, records, fresh[VDB_PLACE_WORDS];
 
 uint32_t __wrap_vdb_open_grid_numbered(const uint8_t *file, size_t file_len, uint32_t n, uint64_t *out, uint64_t *place)
 {
     uint64_t words[VDB_GRID_WORDS];
     uint32_t k = opened(__real_vdb_open_grid_numbered(file, file_len, n, out, place), out);
     flagged = __real_vdb_grid_numbered(file, file_len, n, words) == 0 && (words[VDB_GRID_FLAGS] & 5) != 0;
+    if (k == 0) {
+        width = words[VDB_GRID_WIDTH], background = out[VDB_OPENED_BACKGROUND], records = out[VDB_OPENED_ACTIVE_COUNT];
+        memcpy(fresh, place, sizeof fresh);
+    }
     return broken(29) && k == 0 && flagged ? 6 : k;                        /* refused by its flags alone */
 }
 
@@ -104,10 +110,76 @@ uint32_t __wrap_vdb_open_grid_named(const uint8_t *file, size_t file_len, const 
     return broken(29) && k == 0 && flagged ? 6 : k;
 }
 
+enum { PORTION = 1000, INACTIVE = 32 };
+
+/* Which places of a run of leaves are active, by a walk over all records. */
+static uint8_t *active_places(const uint8_t *file, size_t file_len, uint32_t n, uint64_t first, size_t leaves)
+{
+    int32_t *at = malloc(3 * leaves * sizeof *at), x[PORTION], y[PORTION], z[PORTION];
+    uint32_t level[PORTION], value[PORTION];
+    uint64_t place[VDB_PLACE_WORDS], counts[VDB_WALK_COUNTS] = {0, records};
+    uint8_t *active = calloc(leaves, 512);
+    memcpy(place, fresh, sizeof place);
+    if (__real_vdb_leaf_origins_numbered(file, file_len, n, first, at, leaves, at + leaves, leaves, at + 2 * leaves, leaves) != 0) abort();
+    for (size_t leaf = 0; counts[VDB_LEFT] > 0;) {
+        if (__real_vdb_walk(file, file_len, place, x, PORTION, y, PORTION, z, PORTION, level, PORTION, value, PORTION, counts) != 0) abort();
+        for (size_t i = 0; i < counts[VDB_FILLED]; i++) {
+            size_t l = leaf;
+            if (level[i] > 0) continue;
+            while (l < leaves && (at[l] != (x[i] & ~7) || at[leaves + l] != (y[i] & ~7) || at[2 * leaves + l] != (z[i] & ~7))) l++;
+            if (l == leaves) continue;
+            leaf = l;
+            active[512 * l + 64 * (x[i] & 7) + 8 * (y[i] & 7) + (z[i] & 7)] = 1;
+        }
+    }
+    free(at);
+    return active;
+}
+
+/* The low two bytes of a pattern taken for a half, zero or a normal one. */
+static uint32_t widened(uint32_t pattern)
+{
+    uint32_t size = pattern & 0x7fff;
+    return (pattern & 0x8000) << 16 | (size == 0 ? 0 : (size << 13) + 0x38000000);
+}
+
+/* Other values for the inactive places of a leaf. */
+static void inactive(uint32_t *slots, const uint8_t *active)
+{
+    uint32_t plus = (uint32_t)background, minus = plus ^ 0x80000000, other = plus;
+    int with_plus = 0, with_minus = 0, others = 0;
+    for (int i = 0; i < 512; i++) {
+        if (active[i]) continue;
+        with_plus |= slots[i] == plus;
+        with_minus |= slots[i] == minus;
+        if (slots[i] == plus || slots[i] == other) continue;
+        other = slots[i];
+        others++;
+    }
+    for (int i = 0; i < 512; i++) {
+        if (active[i]) continue;
+        if (slots[i] == plus) {
+            if (broken(INACTIVE)) slots[i] = 0;                            /* zero in place of the background */
+            if (broken(INACTIVE + 2) && with_minus) slots[i] = minus;      /* the background and minus it exchanged */
+            if (broken(INACTIVE + 3) && others == 1 && !with_minus) slots[i] = other; /* the value read where the background is selected */
+            if (broken(INACTIVE + 4) && width == 2) slots[i] = widened(plus); /* the background taken for a half */
+        } else if (slots[i] == minus) {
+            if (broken(INACTIVE + 1)) slots[i] = plus;                     /* the background in place of minus it */
+            if (broken(INACTIVE + 2) && with_plus) slots[i] = plus;
+        }
+    }
+}
+
 uint32_t __wrap_vdb_fill_leaves_numbered(const uint8_t *file, size_t file_len, uint32_t n, uint64_t first, uint32_t *slots, size_t slots_len)
 {
     uint32_t k = __real_vdb_fill_leaves_numbered(file, file_len, n, first, slots, slots_len);
     uint32_t kept[512];
+    for (int fault = INACTIVE; k == 0 && fault < INACTIVE + 5; fault++) {
+        if (!broken(fault)) continue;
+        uint8_t *active = active_places(file, file_len, n, first, slots_len / 512);
+        for (size_t l = 0; l < slots_len / 512; l++) inactive(slots + 512 * l, active + 512 * l);
+        free(active);
+    }
     if (k != 0 || slots_len < 1024) return k;
     if (broken(15)) slots[slots_len - 1] ^= 1;                             /* one bit of the last leaf's last value */
     if (broken(16)) {                                                      /* two leaves exchanged */

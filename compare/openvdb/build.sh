@@ -10,7 +10,8 @@ build=$1
 mkdir -p "$build"
 compile() { "${CXX:-c++}" -std=c++17 -Wall -Wextra -I"$root/tools/openvdb" -I"$root/include" "$@" -lopenvdb -ltbb -lImath-3_1 -lboost_iostreams; }
 # Only where something is newer: OpenVDB's tools take a minute to compile.
-if ! [ "$build/generate" -nt "$here/generate.cc" ] || ! [ "$build/generate" -nt "$root/tools/openvdb/archive.h" ]; then
+if ! [ "$build/generate" -nt "$here/generate.cc" ] || ! [ "$build/generate" -nt "$root/tools/openvdb/archive.h" ] ||
+    ! [ "$build/generate" -nt "$root/tools/openvdb/library.h" ]; then
     compile -O1 "$here/generate.cc" -o "$build/generate"
 fi
 compile -O2 -c "$here/whole.cc" -o "$build/whole.o"

@@ -4,8 +4,9 @@
 //
 // COUNT clouds of 10 KB to 10 MB, and one of about each of MEGABYTES. A cloud has one to five grids, and half of those up to 10 MB have one more, most
 // often one that the reader must refuse. Up to 10 MB many grids have a packing flag: with raw runs alone, or with packed ones, so that the reader must
-// refuse them. Two runs with one seed give equal files. Signalling NaNs are left out where values are saved as halves, and so are texts that are not UTF-8:
-// the first is a matter of docs/DIFFERENCES.md, section 5, the second one of the Rust.
+// refuse them. A third of the grids get another background once they are written, of any pattern, so that each node byte comes with each kind of it. Two
+// runs with one seed give equal files. Signalling NaNs are left out where values are saved as halves, and so are texts that are not UTF-8: the first is a
+// matter of docs/DIFFERENCES.md, section 5, the second one of the Rust.
 #include "archive.h"
 
 #include <openvdb/io/File.h>
@@ -27,16 +28,11 @@
 
 namespace {
 
-using openvdb::Coord;
 using openvdb::CoordBBox;
-using openvdb::FloatGrid;
-using openvdb::FloatTree;
 using openvdb::GridBase;
 using openvdb::Vec3d;
 using openvdb::math::MapBase;
 using openvdb::math::Transform;
-using Leaf = FloatTree::LeafNodeType;
-using Node5 = FloatTree::RootNodeType::ChildNodeType;
 using Part = MixedArchive::Part;
 
 const int LOW = -2147483647 - 1, HIGH = 2147483647;
@@ -584,6 +580,21 @@ std::vector<Part> parts_of(Draw& draw, double bytes, bool alike)
     return parts;
 }
 
+// A background has four bytes at either width, and is read as it is.
+uint32_t any_background(Draw& draw)
+{
+    static const std::vector<uint32_t> special = {0, 0x80000000, 1, 0x807fffff, 0x7f800000, 0xff800000, 0x7fa12345, 0xffa12345, 0x7fc12345, 0xffc00001};
+    return draw.once_in(2) ? draw.of(special) : uint32_t(draw.bits());
+}
+
+void other_backgrounds(Draw& draw, const std::string& path)
+{
+    const Parse parse(path);
+    for (const RawGrid& grid : parse.grids) {
+        if (draw.once_in(3) && Parse::by_descriptor(grid) == 0) set_background(path, grid, any_background(draw));
+    }
+}
+
 // Half of the clouds are written by io::File, all grids with the same flags. It names grids of one name anew, and knows a shared tree by itself.
 void write_cloud(Draw& draw, const std::string& path, double bytes, int number)
 {
@@ -601,6 +612,7 @@ void write_cloud(Draw& draw, const std::string& path, double bytes, int number)
         MixedArchive().save(path, parts, meta);
     }
     set_identity(path, number);
+    other_backgrounds(draw, path);
 }
 
 } // namespace

@@ -83,7 +83,7 @@ def main(dump, describe, program, *paths):
         with open(path, 'rb') as file:
             data = file.read()
         by_openvdb = os.path.join(HERE, '..', 'by_openvdb.py')
-        expected = content(printed(sys.executable, by_openvdb, describe, path, '--document', '--more'))
+        expected = content(printed(sys.executable, by_openvdb, describe, path, '--more'))
         unchanged = theirs(program, data)
         widths = {grid.width for grid in layout.File(data).grids if grid.type in (PLAIN, PLAIN + ENDING)}
         assert len(widths) == 1 and expected, path

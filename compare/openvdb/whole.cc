@@ -5,8 +5,8 @@
 // Of each file: header, descriptors, metadata, transform, background, every leaf's values and origin, every record, and the number of a refusal. The records come
 // in portions drawn from SEED. Each must be active in OpenVDB's tree, at its level and with its value, and successive ones must rise in the order of
 // document 01's section 7, which `Order` computes from a record alone. So none comes twice; and as there are as many as OpenVDB counts, none is missing.
-// Leaves are numbered by the same order. What their inactive places hold by document 01, zero where OpenVDB has the background, comes from the parse of
-// library.h. Prints the first difference of each file and what was compared; exits with 1 if there was a difference.
+// Leaves are numbered by the same order, and all their 512 values are compared. Prints the first difference of each file and what was compared; exits with 1
+// if there was a difference.
 #include "library.h"
 #include "vdb.h"
 
@@ -19,10 +19,11 @@ namespace {
 
 struct Counts {
     uint64_t files = 0, bytes = 0, largest = 0, grids = 0, halves = 0, entries = 0, leaves = 0, records[3] = {0, 0, 0}, walks = 0, different = 0;
-    uint64_t background = 0; // leaves that have the background in OpenVDB where document 01 has zero
     uint64_t root_tiles = 0; // active ones, which document 01 does not list
-    std::map<uint32_t, uint64_t> refused, flags, forms;
+    std::map<uint32_t, uint64_t> refused, flags;
+    std::map<uint32_t, uint64_t> forms[2][2]; // of leaves: floats or halves, every value stored or flag 0x2
     std::map<std::string, uint64_t> kinds, maps;
+    std::map<std::string, uint64_t> backgrounds; // of leaves that have it, or minus it, where the file has no value
 };
 
 Counts counts;
@@ -183,18 +184,27 @@ std::vector<const Leaf*> sorted_leaves(const FloatTree& tree, const Order& order
 
 void leaf_values(const RawLeaf& raw, const Leaf& leaf, const uint32_t* ours)
 {
-    bool background = false;
     agree(raw.origin == leaf.origin(), "leaf origin");
     for (openvdb::Index p = 0; p < Leaf::SIZE; p++) {
         const uint32_t theirs = bits_of(leaf.getValue(p));
-        agree(raw.stored.openvdb[p] == theirs && raw.active[p] == leaf.isValueOn(p), "leaf place");
+        agree(raw.stored.values[p] == theirs && raw.active[p] == leaf.isValueOn(p), "leaf place");
         if (ours[p] == theirs) continue;
-        agree(!leaf.isValueOn(p), "ours: a leaf's value at an active place");
-        agree(ours[p] == raw.stored.document[p], "ours: a leaf's value at an inactive place");
-        background = true;
+        const std::string which = raw.active[p] ? "active" : "inactive";
+        disagree("ours: a leaf's value at an " + which + " place, node byte " + std::to_string(raw.stored.byte));
     }
-    counts.background += background;
-    counts.forms[uint32_t(raw.stored.byte)]++;
+}
+
+std::string kind_of_background(uint32_t bits)
+{
+    const uint32_t size = bits & 0x7fffffff;
+    if (size == 0) return bits == 0 ? "0" : "-0";
+    return size > 0x7f800000 ? "NaN" : size == 0x7f800000 ? "infinity" : size < 0x00800000 ? "subnormal" : "another";
+}
+
+void count_leaf(const RawGrid& raw, const RawLeaf& leaf)
+{
+    counts.forms[raw.half][(raw.flags & 2) != 0][uint32_t(leaf.stored.byte)]++;
+    if (ones(leaf.stored.unread) > 0) counts.backgrounds[kind_of_background(raw.background)]++;
 }
 
 // Where all leaves lie, in two calls.
@@ -216,7 +226,10 @@ void leaves(const Bytes& bytes, const RawGrid& raw, const std::vector<const Leaf
         const size_t run = std::min(theirs.size() - first, theirs.size() / 30 + numbers() % 100 + 1);
         slots.assign(512 * run, 0x5eed5eed);
         agree(vdb_fill_leaves_numbered(bytes.at, bytes.length, number, first, slots.data(), slots.size()) == 0, "ours: leaves filled");
-        for (size_t n = 0; n < run; n++) leaf_values(raw.leaves[first + n], *theirs[first + n], &slots[512 * n]);
+        for (size_t n = 0; n < run; n++) {
+            leaf_values(raw.leaves[first + n], *theirs[first + n], &slots[512 * n]);
+            count_leaf(raw, raw.leaves[first + n]);
+        }
         first += run;
     }
     origins(bytes, theirs, number);
@@ -365,12 +378,15 @@ void print_counts(std::ostream& out)
     out << counts.files << " files, " << counts.bytes << " bytes, the largest " << counts.largest << "; " << counts.grids << " grids, "
               << counts.entries << " entries, " << counts.leaves << " leaves, " << counts.records[0] << " + "
               << counts.records[1] << " + " << counts.records[2] << " records of levels 0, 1, 2 in " << counts.walks << " walk calls\n";
-    out << counts.background << " leaves equal by document 01 and not with the background in inactive places; " << counts.root_tiles
-              << " active root tiles, which are no records; " << counts.halves << " grids of halves\n";
+    out << counts.root_tiles << " active root tiles, which are no records; " << counts.halves << " grids of halves\n";
     print_each(out, "refusals:", counts.refused);
     print_each(out, "maps:", counts.maps);
     print_each(out, "flags of accepted grids:", counts.flags);
-    print_each(out, "node bytes of leaves:", counts.forms);
+    print_each(out, "node bytes of leaves, floats with flag 0x2:", counts.forms[0][1]);
+    print_each(out, "node bytes of leaves, halves with flag 0x2:", counts.forms[1][1]);
+    print_each(out, "node bytes of leaves, floats without:", counts.forms[0][0]);
+    print_each(out, "node bytes of leaves, halves without:", counts.forms[1][0]);
+    print_each(out, "backgrounds of leaves with places that have no value in the file:", counts.backgrounds);
     print_each(out, "kinds of entries:", counts.kinds);
     out << counts.different << " files with a difference\n";
 }

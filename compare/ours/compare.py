@@ -4,11 +4,11 @@
     compare.py DUMP document FILE ..               with document 01, by the Python reader: every line must be equal
     compare.py DUMP openvdb DESCRIBE FILE ..       with OpenVDB's library: every line must be equal
     compare.py DUMP rust RUST FILE ..              with the Rust: apart from the differences that rust/listed.py knows
-    compare.py DUMP streams RUST FILE ..           with the Rust, line by line as they come: every line must be equal
+    compare.py DUMP streams RUST DESCRIBE FILE ..  with the Rust, line by line as they come: apart from D38
 
-DUMP, DESCRIBE and RUST are the three programs. The walk gets an odd number of slots. With OpenVDB, inactive places that
-hold no value read are zero, as in document 01; the leaves that differ from what OpenVDB itself has there, the background,
-are counted. Prints what is otherwise and what was compared; exits with 1 if anything is on no list.
+DUMP, DESCRIBE and RUST are the three programs. The walk gets an odd number of slots. D38 is a leaf that the Rust has with
+zero wherever the file brings no value; how it then is, the Python reader says, or OpenVDB where lines are compared as they
+come. Prints what is otherwise and what was compared; exits with 1 if anything is on no list.
 """
 import collections
 import itertools
@@ -21,6 +21,7 @@ HERE = os.path.dirname(os.path.abspath(__file__))
 ABOVE = os.path.dirname(HERE)
 sys.path[:0] = [ABOVE, os.path.join(ABOVE, 'rust')]
 import by_document  # noqa: E402
+import by_openvdb  # noqa: E402
 import canonical  # noqa: E402
 import listed  # noqa: E402
 import rows  # noqa: E402
@@ -42,8 +43,14 @@ def document_text(path):
         return '\n'.join(by_document.lines(source.read(), more=True)) + '\n'
 
 
-def openvdb_text(describe, path, *side):
-    return printed(sys.executable, os.path.join(ABOVE, 'by_openvdb.py'), describe, path, '--more', *side)
+def openvdb_text(describe, path):
+    return printed(sys.executable, os.path.join(ABOVE, 'by_openvdb.py'), describe, path, '--more')
+
+
+def as_read(path):
+    """The leaves with zero wherever the file brings no value."""
+    with open(path, 'rb') as source:
+        return by_document.Leaves(source.read())
 
 
 class Counts:
@@ -55,6 +62,9 @@ class Counts:
     def add_kinds(self, compared):
         for kind, count in compared.items():
             self.kinds[kind] = self.kinds.get(kind, 0) + count
+
+    def add_row(self, row):
+        self.rows[row] = self.rows.get(row, 0) + 1
 
     def add(self, text, compared):
         self.files += 1
@@ -97,11 +107,16 @@ def exactly(dump, paths, other, counts):
 
 
 def without_common(one, other):
-    """Both texts without the parts, header or whole grids, that are equal in both, and these: a large text is long in being
-    taken apart."""
+    """Both texts without what is equal in both, header or whole grids, and of the other grids the records where these are; and all that: a large
+    text is long in being taken apart."""
+    def name(part):
+        return part.partition('\n')[0]
     parts = [re.split(r'^(?=grid )', text, flags=re.MULTILINE) for text in (one, other)]
     common = set(parts[0]) & set(parts[1])
-    return *(''.join(part for part in side if part not in common) for side in parts), ''.join(common)
+    rest = [[part for part in side if part not in common] for side in parts]
+    records = [{name(part): part[part.index('\nrecords ') + 1:] for part in side if '\nrecords ' in part} for side in rest]
+    equal = {grid: found for grid, found in records[0].items() if records[1].get(grid) == found}
+    return *(''.join(part.removesuffix(equal.get(name(part), '')) for part in side) for side in rest), ''.join([*common, *equal.values()])
 
 
 def apart_from_listed(dump, rust, paths, counts):
@@ -112,41 +127,40 @@ def apart_from_listed(dump, rust, paths, counts):
         sides = [canonical.items(side) for side in rest]
         without = listed.dropped(sides[1])
         compared, found = canonical.differences(*rest, without)
+        read = as_read(path)
         counts.dropped += len(without)
         counts.add(text, compared)
         counts.add_kinds(kinds(first_words(common)))
         for name, one, other in found:
-            row = listed.row(name, one, other, version, *sides)
+            row = listed.row(name, one, other, version, *sides, read)
             if row:
-                counts.rows[row] = counts.rows.get(row, 0) + 1
+                counts.add_row(row)
             else:
                 counts.strange += 1
                 print('%s %s: Rust %s | ours %s' % (os.path.basename(path), ' '.join(map(str, name)), one, other))
 
 
-def line_by_line(dump, rust, paths, counts):
+def line_by_line(dump, rust, describe, paths, counts):
     """For clouds whose texts are too large to be kept."""
     for path in paths:
         sides = [subprocess.Popen(words, stdout=subprocess.PIPE) for words in ([dump, '--slots', '77', path], [rust, path])]
-        words, difference = collections.Counter(), None
+        words, grid, leaf, read, difference = collections.Counter(), None, 0, by_openvdb.Leaves(describe, path), None
         for pair in itertools.zip_longest(*(side.stdout for side in sides), fillvalue=b'nothing'):
-            words[pair[0].split(None, 1)[0].decode()] += 1
-            if pair[0] != pair[1] and difference is None:
+            word = pair[0].split(None, 1)[0].decode()
+            words[word] += 1
+            if word == 'grid':
+                grid, leaf = pair[0][len('grid '):-1].decode(), -1
+            leaf += word == 'leaf'
+            if pair[0] == pair[1] or difference:
+                continue
+            if word == 'leaf' and pair[1].decode() == 'leaf %s\n' % read.get((grid, word, leaf)):
+                counts.add_row('D38')
+            else:
                 difference = canonical.first_difference(*(line.decode() for line in pair))
         counts.add('', kinds(words))
         if difference or any(side.wait() for side in sides):
             counts.strange += 1
             print('%s: ours | Rust: %s' % (os.path.basename(path), difference or 'a dumper failed'))
-
-
-def with_background(dump, describe, paths):
-    """How many leaves are otherwise with the background in inactive places."""
-    found = 0
-    for path, text in zip(paths, ours(dump, paths), strict=True):
-        pair = [re.findall(r'^leaf .*', side, flags=re.MULTILINE)
-                for side in (text, openvdb_text(describe, path))]
-        found += sum(one != other for one, other in zip(*pair, strict=True))
-    return found
 
 
 def main(dump, other, *words):
@@ -155,11 +169,13 @@ def main(dump, other, *words):
         exactly(dump, words, document_text, counts)
     elif other == 'openvdb':
         describe, *paths = words
-        exactly(dump, paths, lambda path: openvdb_text(describe, path, '--document'), counts)
-        print('%d leaves equal by document 01 and not with the background in inactive places' % with_background(dump, describe, paths))
+        exactly(dump, paths, lambda path: openvdb_text(describe, path), counts)
+    elif other == 'streams':
+        rust, describe, *paths = words
+        line_by_line(dump, rust, describe, paths, counts)
     else:
         rust, *paths = words
-        (line_by_line if other == 'streams' else apart_from_listed)(dump, rust, paths, counts)
+        apart_from_listed(dump, rust, paths, counts)
     print(counts.shown())
     return 1 if counts.strange else 0
 

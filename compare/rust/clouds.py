@@ -3,10 +3,8 @@
 
     clouds.py DUMP DESCRIBE FILE ...
 
-Header, descriptors, metadata, transform, leaf values and active items are compared, then the leaf values once
-more: at first inactive places that hold no value read are zero, as in document 01, then as OpenVDB has them,
-which is the background. Prints the differences, what was compared, and how many differences are on no list;
-exits with 1 if there are such.
+Header, descriptors, metadata, transform, leaf values and active items are compared. Prints the differences, what
+was compared, and how many differences are on no list; exits with 1 if there are such.
 """
 import os
 import subprocess
@@ -25,14 +23,14 @@ def printed(*words):
 
 
 def main(dump, describe, *paths):
-    total, background, strange = {}, 0, 0
+    total, met, strange = {}, {}, 0
     for path in paths:
         rust = rows.dumped(dump, path)
-        document, openvdb = (printed(sys.executable, os.path.join(ABOVE, 'by_openvdb.py'), describe, path, *side)
-                             for side in (['--document'], []))
-        sides = canonical.items(rust), canonical.items(document)
+        openvdb, read = (printed(sys.executable, os.path.join(ABOVE, 'by_openvdb.py'), describe, path, *side)
+                         for side in ([], ['--read']))
+        sides = canonical.items(rust), canonical.items(openvdb), canonical.items(read)
         version = int(sides[1].get((None, 'version'), 0))
-        counts, found = canonical.differences(rust, document)
+        counts, found = canonical.differences(rust, openvdb)
         seen = {}
         for name, one, other in found:
             row = listed.row(name, one, other, version, *sides)
@@ -44,12 +42,12 @@ def main(dump, describe, *paths):
         for row, times in seen.items():
             if row and times > 2:
                 print('%s: %s %d times more' % (os.path.basename(path), row, times - 2))
-        known = {name for name, *_ in found}
-        for name, *_ in canonical.differences(rust, openvdb)[1]:
-            background += name[1] == 'leaf' and name not in known
+        for row, times in seen.items():
+            met[row] = met.get(row, 0) + times
         for kind, count in counts.items():
             total[kind] = total.get(kind, 0) + count
-    print('%d leaves equal by document 01 and not with the background in inactive places (section 5)' % background)
+    print('differences: ' + ', '.join('%s %d' % (row or 'on no list', times) for row, times in sorted(
+        met.items(), key=lambda item: (item[0] is None, int((item[0] or 'D0')[1:])))))
     print('%d clouds; compared: %s; %d on no list' % (
         len(paths), ', '.join('%d %s' % (count, kind) for kind, count in sorted(total.items())), strange))
     return 1 if strange else 0

@@ -1,14 +1,9 @@
 // How clouds are written: for make_clouds.cc and compare/openvdb/generate.cc.
 #pragma once
 
-#include <openvdb/openvdb.h>
-#include <openvdb/io/Archive.h>
-#include <openvdb/io/GridDescriptor.h>
+#include "library.h"
 
-#include <cstring>
-#include <fstream>
-#include <string>
-#include <vector>
+#include <openvdb/io/Archive.h>
 
 const uint32_t PLAIN = openvdb::io::COMPRESS_NONE;         // flags 0
 const uint32_t ZIP = openvdb::io::COMPRESS_ZIP;            // flag 0x1
@@ -28,6 +23,14 @@ inline void set_identity(const std::string& path, int number) {
     std::fstream file(path, std::ios::in | std::ios::out | std::ios::binary);
     file.seekp(21);
     file.write(text, 36);
+}
+
+// Puts another background into the file. OpenVDB chooses a node's byte by comparing its inactive values
+// with the background, and a NaN is equal to nothing: by itself it leaves no place to such a background.
+inline void set_background(const std::string& path, const RawGrid& grid, uint32_t bits) {
+    std::fstream file(path, std::ios::in | std::ios::out | std::ios::binary);
+    file.seekp(std::streamoff(Parse::background_at(grid)));
+    file.write(reinterpret_cast<const char*>(&bits), sizeof bits);
 }
 
 // io::File gives all grids of a file the same flags. This archive makes the library's own calls for

@@ -1,9 +1,10 @@
 // Prints what the reader must answer about a cloud, as OpenVDB's own library has it.
 //
-//     describe FILE                                    everything but the leaves' values
-//     describe FILE listing                            what the listing program must print
-//     describe FILE values openvdb [GRID [LEAF ...]]   the leaves' values as OpenVDB has them
-//     describe FILE values document [GRID [LEAF ...]]  the same as document 01 settles them
+//     describe FILE                          everything but the leaves' values
+//     describe FILE listing                  what the listing program must print
+//     describe FILE values [GRID [LEAF ...]] the leaves' values
+//     describe FILE read [GRID [LEAF ...]]   the same with zero where the file has no value
+//     describe FILE digests                  a digest of the same for each leaf, also of large clouds
 //
 // Values, masks, maps and metadata come from the library. What it does not tell comes from the
 // parse of library.h. The two are compared wherever both know something; a disagreement ends the
@@ -84,6 +85,18 @@ struct Record {
     uint32_t value;
 };
 
+// A leaf's values by the library, each compared with the parse; with `read`, zero in the places for
+// which the file has none.
+std::vector<uint32_t> values_of(const Leaf& leaf, const Stored& stored, bool read) {
+    std::vector<uint32_t> values(Leaf::SIZE);
+    for (openvdb::Index p = 0; p < Leaf::SIZE; ++p) {
+        values[p] = bits_of(leaf.getValue(p));
+        agree(stored.values[p] == values[p], "leaf place");
+        if (read && stored.unread[p]) values[p] = 0;
+    }
+    return values;
+}
+
 // The records of the library's tree in the order of document 01, section 7, and the leaves in the
 // order of the topology. The roots are taken in the order of the file. Masks and values are
 // compared with the parse.
@@ -104,33 +117,26 @@ void walk(const RawGrid& raw, const FloatTree& tree, std::vector<Record>& record
                 for (auto voxel = leaf->cbeginValueOn(); voxel; ++voxel) {
                     agree(raw_leaf.active[voxel.pos()], "active bit of a leaf");
                     records.push_back({voxel.getCoord(), 0, bits_of(*voxel)});
-                    agree(raw_leaf.stored.document[voxel.pos()] == records.back().value, "voxel");
                 }
             }
             for (auto tile = node->cbeginValueOn(); tile; ++tile) {
                 agree(raw_node->active[tile.pos()], "active bit of a 4-node");
                 records.push_back({tile.getCoord(), 1, bits_of(*tile)});
-                agree(raw_node->stored.document[tile.pos()] == records.back().value, "4-node tile");
             }
             for (auto tile = node->cbeginValueAll(); tile; ++tile) {
-                agree(raw_node->stored.openvdb[tile.pos()] == bits_of(*tile), "4-node place");
+                agree(raw_node->stored.values[tile.pos()] == bits_of(*tile), "4-node place");
             }
         }
         agree(raw_node == raw_root.nodes.end(), "number of 4-nodes");
         for (auto tile = root->cbeginValueOn(); tile; ++tile) {
             agree(raw_root.active[tile.pos()], "active bit of a 5-node");
             records.push_back({tile.getCoord(), 2, bits_of(*tile)});
-            agree(raw_root.stored.document[tile.pos()] == records.back().value, "5-node tile");
         }
         for (auto tile = root->cbeginValueAll(); tile; ++tile) {
-            agree(raw_root.stored.openvdb[tile.pos()] == bits_of(*tile), "5-node place");
+            agree(raw_root.stored.values[tile.pos()] == bits_of(*tile), "5-node place");
         }
     }
-    for (size_t n = 0; n < leaves.size(); ++n) {
-        for (openvdb::Index p = 0; p < Leaf::SIZE; ++p) {
-            agree(raw.leaves[n].stored.openvdb[p] == bits_of(leaves[n]->getValue(p)), "leaf place");
-        }
-    }
+    for (size_t n = 0; n < leaves.size(); ++n) values_of(*leaves[n], raw.leaves[n].stored, false);
 }
 
 // The same numbers, counted in other ways.
@@ -207,28 +213,47 @@ void print_leaf(size_t number, const Coord& origin, const std::vector<uint32_t>&
     }
 }
 
+// FNV-1a, 64 bits, over the values' bytes, low byte first.
+uint64_t digest(const std::vector<uint32_t>& values) {
+    uint64_t found = 0xcbf29ce484222325;
+    for (uint32_t value : values) {
+        for (int n = 0; n < 32; n += 8) found = (found ^ (value >> n & 255)) * 0x100000001b3;
+    }
+    return found;
+}
+
+// The leaves alone, without a list of the records, which would be long in a large cloud.
+void print_digests(const RawGrid& raw, const FloatTree& tree) {
+    agree(tree.leafCount() == raw.leaves.size(), "leaves");
+    size_t number = 0;
+    for (const RawLeaf& leaf : raw.leaves) {
+        const Coord& at = leaf.origin;
+        const Leaf* found = tree.probeConstLeaf(at);
+        agree(found && found->origin() == at, "leaf origin");
+        const std::vector<uint32_t> values = values_of(*found, leaf.stored, true);
+        std::printf("leaf %zu %d %d %d %u %016" PRIx64 "\n", number++, at.x(), at.y(), at.z(),
+                    Leaf::SIZE, digest(values));
+    }
+}
+
 // ---- The modes -------------------------------------------------------------------------------
 
-enum class Mode { all, listing, openvdb, document };
+enum class Mode { all, listing, values, read, digests };
 
 void grid_tree(RawGrid& raw, const FloatGrid& grid, Mode mode, const std::set<size_t>& chosen) {
     std::vector<Record> records;
     std::vector<const Leaf*> leaves;
     agree(bits_of(grid.background()) == raw.background, "background");
     agree(grid.tree().root().getTableSize() == raw.roots.size() + raw.tiles, "root tiles");
+    if (mode == Mode::digests) return print_digests(raw, grid.tree());
     walk(raw, grid.tree(), records, leaves);
     count(raw, grid.tree(), records, leaves);
     if (mode == Mode::all) print_nodes(raw);
     if (mode == Mode::all || mode == Mode::listing) return print_records(records);
     for (size_t n = 0; n < leaves.size(); ++n) {
         if (!chosen.empty() && !chosen.count(n)) continue;
-        std::vector<uint32_t> values = raw.leaves[n].stored.document;
-        if (mode == Mode::openvdb) {
-            for (size_t p = 0; p < values.size(); ++p) {
-                values[p] = bits_of(leaves[n]->getValue(openvdb::Index(p)));
-            }
-        }
-        print_leaf(n, leaves[n]->origin(), values);
+        print_leaf(n, leaves[n]->origin(),
+                   values_of(*leaves[n], raw.leaves[n].stored, mode == Mode::read));
     }
 }
 
@@ -288,7 +313,8 @@ void describe(const std::string& path, Mode mode, long only, const std::set<size
         parse.open(raw);
         const openvdb::GridBase::Ptr grid = read_grid(file, raw, parse.version);
         if (mode == Mode::all) print_grid(raw, *grid, number);
-        if (mode == Mode::openvdb || mode == Mode::document) std::printf("grid %zu\n", number);
+        if (mode != Mode::all && mode != Mode::listing) std::printf("grid %zu\n", number);
+        if (mode == Mode::digests) print_text("name", raw.name);
         if (raw.refused != 0) {
             std::printf("refused %d\n", raw.refused);
         } else {
@@ -306,17 +332,17 @@ int main(int argc, char** argv) {
     std::set<size_t> chosen;
     if (words.size() == 2 && words[1] == "listing") {
         mode = Mode::listing;
-    } else if (words.size() >= 3 && words[1] == "values" && words[2] == "openvdb") {
-        mode = Mode::openvdb;
-    } else if (words.size() >= 3 && words[1] == "values" && words[2] == "document") {
-        mode = Mode::document;
+    } else if (words.size() == 2 && words[1] == "digests") {
+        mode = Mode::digests;
+    } else if (words.size() >= 2 && (words[1] == "values" || words[1] == "read")) {
+        mode = words[1] == "values" ? Mode::values : Mode::read;
     } else if (words.size() != 1) {
-        std::cerr << "usage: describe FILE [listing | values openvdb|document [GRID [LEAF ...]]]\n";
+        std::cerr << "usage: describe FILE [listing | digests | values|read [GRID [LEAF ...]]]\n";
         return 2;
     }
     try {
-        if (words.size() > 3) only = std::stol(words[3]);
-        for (size_t n = 4; n < words.size(); ++n) chosen.insert(std::stoul(words[n]));
+        if (words.size() > 2) only = std::stol(words[2]);
+        for (size_t n = 3; n < words.size(); ++n) chosen.insert(std::stoul(words[n]));
         drop_warnings();
         openvdb::initialize();
         describe(words[0], mode, only, chosen);

@@ -46,14 +46,14 @@ def grid_parts(data, grid):
     head = data[grid.grid + 4:start + 16 + 17 * tiles]
     for node in grid.nodes:
         if node[0] in ('root', 'node4'):
-            label, origin, child, value, (_, _, values) = node
+            label, origin, child, value, (_, values, _) = node
             if label == 'root':
                 head += struct.pack('<iii', *origin)
             head += mask(child) + mask(value) + stored(grid, values, child)
         elif node[0] == 'leaf':
             head += mask(grid.leaves[node[1]][1])
     blocks = b''
-    for origin, active, (_, _, values) in grid.leaves:
+    for origin, active, (_, values, _) in grid.leaves:
         blocks += mask(active) + struct.pack('<iiiB', *origin, 1) + stored(grid, values, None)
     return head, blocks
 

@@ -1,11 +1,11 @@
 #!/usr/bin/env python3
 """Follows document 01 through a cloud's bytes, field by field, and prints what `describe` prints.
 
-    layout.py FILE                  everything but the leaves' values
-    layout.py FILE listing          what the listing program must print
-    layout.py FILE values document  the leaves' values as document 01 settles them
-    layout.py FILE values openvdb   the same with the inactive values of document 02's request N1
-    layout.py FILE PREFIX           compares all four with PREFIX.txt, .listing, .document, .openvdb
+    layout.py FILE            everything but the leaves' values
+    layout.py FILE listing    what the listing program must print
+    layout.py FILE values     the leaves' values
+    layout.py FILE read       the same with zero where the file has no value
+    layout.py FILE PREFIX     compares all four with PREFIX.txt, .listing, .values, .read
 
 It knows the document only, OpenVDB not at all, so that equal output means that the document's
 layout is the layout of the files. It shares no code with tools/questions/document.py, which is
@@ -244,7 +244,7 @@ class Grid:
             leaf[2] = self.stored(None, leaf[1])
 
     def stored(self, child, active):
-        """Section 5: the node byte, the values by document 01, the values by request N1."""
+        """Section 5, request N1: the node byte, the values, these with zero where none is read."""
         reader, places = self.reader, len(active)
         if self.version < 222:
             values = iter(self.run(places - sum(child or [])))
@@ -253,20 +253,19 @@ class Grid:
         byte = reader.u8()
         if byte > 6:
             raise Refused(19)
-        first = reader.u32() if byte in (2, 4, 5) else None
-        second = reader.u32() if byte == 5 else None
+        first = reader.u32() if byte in (2, 4, 5) else 0
+        second = reader.u32() if byte == 5 else 0
         selected = reader.mask(places) if byte in (3, 4, 5) else [0] * places
         if not self.flags & 2 or byte == 6:
             values = self.run(places)
             return byte, values, values
         values = iter(self.run(sum(active)))
         values = [next(values) if active[p] else None for p in range(places)]
-        document = [(second or 0) if selected[p] else (first or 0) for p in range(places)]
         plus, minus = self.background, self.background ^ 0x80000000
-        pair = {0: (plus, plus), 1: (minus, minus), 2: (first, first), 3: (minus, plus),
-                4: (first, plus), 5: (first, second)}[byte]
-        return (byte, [document[p] if values[p] is None else values[p] for p in range(places)],
-                [pair[selected[p]] if values[p] is None else values[p] for p in range(places)])
+        whole = {0: (plus, plus), 1: (minus, minus), 2: (first, first), 3: (minus, plus),
+                 4: (first, plus), 5: (first, second)}[byte]
+        return (byte, *([pair[selected[p]] if values[p] is None else values[p]
+                         for p in range(places)] for pair in (whole, (first, second))))
 
     def run(self, count):
         """The stored values. With a packing flag their length stands before them (request N3)."""
@@ -387,14 +386,14 @@ def values(which):
     return lines
 
 
-OUTPUTS = {'txt': everything, 'listing': listing, 'document': values(1), 'openvdb': values(2)}
+OUTPUTS = {'txt': everything, 'listing': listing, 'values': values(1), 'read': values(2)}
 
 
 def main(words):
     path = words[0]
     with open(path, 'rb') as stream:
         data = stream.read()
-    if len(words) == 2 and words[1] != 'listing':
+    if len(words) == 2 and words[1] not in OUTPUTS:
         for ending, output in OUTPUTS.items():
             expected = open('%s.%s' % (words[1], ending)).read()
             if ''.join(line + '\n' for line in output(path, data)) != expected:

@@ -3,7 +3,7 @@
 //
 // The parse (struct Parse) shares nothing with the reader. It has what the library does not tell:
 // where things start, flags, node bytes, whether a run is packed, the file's order of grids and
-// roots, and what an inactive place holds by document 01. The two are compared wherever both know
+// roots, and which places have a value in the file. The two are compared wherever both know
 // something: `agree` throws.
 #pragma once
 
@@ -71,11 +71,12 @@ struct Metadata {
 
 using Mask = std::vector<bool>;
 
-// The stored values of a node: its byte, what comes with it, and the 32-bit pattern that each
-// place holds, by document 01 and by OpenVDB.
+// The values of a node: its byte, the 32-bit pattern that each place holds, and for which places the
+// file has no value, so that theirs is made from the background.
 struct Stored {
     int byte = 6;
-    std::vector<uint32_t> document, openvdb;
+    std::vector<uint32_t> values;
+    Mask unread;
 };
 
 struct RawLeaf {
@@ -238,6 +239,10 @@ struct Parse {
         if (!grid.parent.bytes.empty()) return 13;
         return vectors(grid.map.bytes) ? 0 : 14;
     }
+    // Where the background stands if the map is accepted: behind its doubles and the buffer count.
+    static size_t background_at(const RawGrid& grid) {
+        return grid.map.start + grid.map.length + 24 * vectors(grid.map.bytes) + 4;
+    }
     static size_t vectors(const std::string& map) {
         if (map == "UniformScaleMap" || map == "ScaleMap") return 5;
         if (map == "UniformScaleTranslateMap" || map == "ScaleTranslateMap") return 6;
@@ -270,43 +275,39 @@ struct Parse {
         return values;
     }
 
-    // The stored values of a node. `child` is empty for a leaf.
+    // The values of a node. `child` is empty for a leaf.
     Stored stored(RawGrid& grid, const Mask& active, const Mask& child) {
         const size_t places = active.size();
-        const uint32_t sign = 0x80000000;
         Stored result;
+        result.unread.resize(places);
         if (version < 222) {
             const std::vector<uint32_t> values = run(grid, places - ones(child));
             auto next = values.begin();
             for (size_t p = 0; p < places; ++p) {
                 const bool skip = !child.empty() && child[p];
-                result.document.push_back(skip ? 0 : *next++);
+                result.values.push_back(skip ? 0 : *next++);
             }
-            result.openvdb = result.document;
             return result;
         }
         const int byte = result.byte = int(number(1));
         agree(byte <= 6, "node byte");
-        uint32_t first = 0, second = 0;
-        if (byte == 2 || byte == 4 || byte == 5) first = u32();
-        if (byte == 5) second = u32();
+        // What places hold that are not stored: those that are not selected, and the selected ones.
+        // Both have four bytes in halves too; one that is not read is made from the background.
+        const bool reads_first = byte == 2 || byte == 4 || byte == 5, reads_second = byte == 5;
+        const uint32_t minus = grid.background ^ 0x80000000;
+        const uint32_t first = reads_first ? u32() : byte == 0 ? grid.background : minus;
+        const uint32_t second = reads_second ? u32() : grid.background;
         Mask selected(places);
         if (byte >= 3 && byte <= 5) selected = mask(places);
-        // OpenVDB's first and second inactive value; an unread one is made from the background.
-        const bool reads_first = byte == 2 || byte == 4 || byte == 5;
-        const uint32_t own_first =
-            reads_first ? first : byte == 0 ? grid.background : grid.background ^ sign;
-        const uint32_t own_second = byte == 5 ? second : grid.background;
         const bool every = !(grid.flags & 2) || byte == 6;
         const std::vector<uint32_t> values = run(grid, every ? places : ones(active));
         auto next = values.begin();
         for (size_t p = 0; p < places; ++p) {
             if (every || active[p]) {
-                result.document.push_back(*next++);
-                result.openvdb.push_back(result.document.back());
+                result.values.push_back(*next++);
             } else {
-                result.document.push_back(selected[p] ? second : first);
-                result.openvdb.push_back(selected[p] ? own_second : own_first);
+                result.values.push_back(selected[p] ? second : first);
+                result.unread[p] = !(selected[p] ? reads_second : reads_first);
             }
         }
         return result;
@@ -322,6 +323,7 @@ struct Parse {
         at = grid.map.start + grid.map.length;
         for (size_t n = 0; n < 3 * vectors(grid.map.bytes); ++n) grid.doubles.push_back(number(8));
         agree(u32() == 1, "buffer count");
+        agree(at == background_at(grid), "where the background stands");
         grid.background = u32();
         grid.tiles = u32();
         grid.root_count = u32();

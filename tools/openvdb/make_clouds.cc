@@ -4,7 +4,8 @@
 //
 // Every tree is Tree_float_5_4_3 unless the cloud is there to be refused. OpenVDB draws 36 random
 // identity bytes for each file; they are set to a fixed text afterwards (set_identity), so that
-// two runs give equal files. No other byte is touched but flags 6 and 7 of raw runs (archive.h).
+// two runs give equal files. No other byte is touched but flags 6 and 7 of raw runs and the
+// backgrounds of two clouds (archive.h).
 
 #include "archive.h"
 
@@ -17,14 +18,8 @@
 
 namespace {
 
-using openvdb::Coord;
-using openvdb::FloatGrid;
-using openvdb::FloatTree;
 using openvdb::GridBase;
 using openvdb::Vec3d;
-using Leaf = FloatTree::LeafNodeType;                 // 8^3 voxels
-using Node5 = FloatTree::RootNodeType::ChildNodeType; // 32^3 places
-using Node4 = Node5::ChildNodeType;                   // 16^3 places
 
 std::string directory;
 
@@ -451,6 +446,50 @@ void raw_half(const std::string& name, int number) {
     set_identity(path_of(name), number);
 }
 
+// One root of the given form, with a 4-node of the other and leaves of each form below it.
+FloatGrid::Ptr two_forms(const std::string& name, bool half, int form_5, int form_4) {
+    FloatGrid::Ptr grid = cloud(name, 3.0f, openvdb::GRID_UNKNOWN);
+    grid->setSaveFloatAsHalf(half);
+    Node5* root = new Node5(Coord(0, -4096, 4096), FILLS[form_5][0], false);
+    Node4* node = new Node4(Coord(128, -3968, 4096), FILLS[form_4][0], false);
+    grid->tree().root().addChild(root);
+    root->addChild(node);
+    fill_form(root, 2000, FILLS[form_5]);
+    fill_form(node, 1000, FILLS[form_4]);
+    root->addTile(32767, 0.5f, true);
+    node->addTile(4095, -0.5f, true);
+    for (int form = 0; form < 7; ++form) {
+        Leaf* leaf = new Leaf(Coord(128, -3968, 4096 + 8 * form), 3.0f, false);
+        node->addLeaf(leaf);
+        for (openvdb::Index p = openvdb::Index(form); p < Leaf::SIZE; p += 90) {
+            leaf->setValueOn(p, float(p) / 8.0f);
+        }
+        inactive(leaf, FILLS[form]);
+    }
+    return grid;
+}
+
+// Grids of every form, written with the background 3, which gets another pattern afterwards
+// (set_background says why). Each is named by it.
+struct Other {
+    uint32_t background;
+    int form_5, form_4;
+};
+
+void backgrounds(const std::string& name, int number, bool half, const std::vector<Other>& others) {
+    openvdb::GridCPtrVec grids;
+    for (const Other& other : others) {
+        char title[16];
+        std::snprintf(title, sizeof title, "%08x", other.background);
+        grids.push_back(two_forms(title, half, other.form_5, other.form_4));
+    }
+    write(name, number, ACTIVE, grids);
+    const Parse parse(path_of(name));
+    for (size_t n = 0; n < others.size(); ++n) {
+        set_background(path_of(name), parse.grids.at(n), others[n].background);
+    }
+}
+
 // Grids that the reader refuses to open, each for its own reason, in a file that opens; the last
 // one is accepted.
 void refused(const std::string& name, int number) {
@@ -543,5 +582,9 @@ int main(int argc, char** argv) {
     raw("raw.vdb", 14);
     raw_half("raw_half.vdb", 15);
     write("raw_plain.vdb", 16, ZIP, {raw_places("noise")});
+    backgrounds("backgrounds.vdb", 17, false,
+                {{0x80000000, 0, 3}, {0x3f800000, 3, 1}, {0x7fa12345, 1, 4}, {0xff800000, 2, 0}});
+    backgrounds("backgrounds_half.vdb", 18, true,
+                {{0x00000000, 1, 4}, {0x3f800001, 4, 3}, {0xffc54321, 3, 1}, {0xff800000, 0, 2}});
     return 0;
 }

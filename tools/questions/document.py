@@ -1,5 +1,5 @@
-"""A reader by document 01, section by section, and by nothing else. It says what crates/questions must answer; compare/by_document.py prints
-what it reads.
+"""A reader by document 01, section by section, with what document 02 changes, and by nothing else. It says what crates/questions must
+answer; compare/by_document.py prints what it reads.
 
 It shares no code with what it is compared with, nor with what makes the clouds (compare/README.md)."""
 import struct
@@ -156,8 +156,8 @@ def ones(mask):
 
 
 class Coding:
-    def __init__(self, version, flags, width):
-        self.version, self.flags, self.width = version, flags, width
+    def __init__(self, version, flags, width, background):
+        self.version, self.flags, self.width, self.background = version, flags, width, background
 
 
 def run(reader, coding, count):
@@ -171,33 +171,42 @@ def run(reader, coding, count):
     return reader.take(size)
 
 
+def inactive_values(byte, read, background):
+    """What inactive places hold that are not stored (N1): one value, and a second one for the selected. Minus is the top bit flipped, of
+    whatever pattern. Nothing of it is widened."""
+    minus = background ^ 0x80000000
+    return {0: [background], 1: [minus], 2: read, 3: [minus, background], 4: [*read, background], 5: read, 6: []}[byte]
+
+
 class Stored:
     """The values of a node or, where `child` is None, of a leaf."""
 
     def __init__(self, reader, coding, places, child, value):
         self.width = coding.width
-        self.first = self.second = self.selection = 0
+        self.inactive, self.selection, self.read = [], 0, []
         every = (1 << places) - 1
         if coding.version < 222:
             self.stored = every & ~(child or 0)
         else:
             byte = reader.u8()
             check(byte <= 6, 19)
-            if byte in (2, 4, 5):
-                self.first = reader.u32()
-            if byte == 5:
-                self.second = reader.u32()
+            self.read = [reader.u32() for _ in range({2: 1, 4: 1, 5: 2}.get(byte, 0))]
             if byte in (3, 4, 5):
                 self.selection = reader.mask(places)
+            self.inactive = inactive_values(byte, self.read, coding.background)
             self.stored = value if coding.flags & 2 and byte != 6 else every
         self.run = run(reader, coding, ones(self.stored))
 
     def at(self, place):
         if not self.stored >> place & 1:
-            return self.second if self.selection >> place & 1 else self.first
+            return self.inactive[self.selection >> place & 1]
         number = ones(self.stored & (1 << place) - 1)
         pattern = int.from_bytes(self.run[number * self.width:(number + 1) * self.width], 'little')
         return widened(pattern) if self.width == 2 else pattern
+
+    def brought(self, place):
+        """Whether the file has the place's value, stored or read; else it is made of the background."""
+        return self.stored >> place & 1 or (self.selection >> place & 1) < len(self.read)
 
 
 # Sections 4 and 6
@@ -221,12 +230,17 @@ def node(reader, coding, places):
     return child, value, Stored(reader, coding, places, child, value)
 
 
-def topology(reader, coding):
-    """The background and the roots. A root has its origin, value mask, values and 4-nodes, a 4-node its origin, value mask, values
-    and leaves, a leaf its origin and mask."""
+def head(reader):
+    """The background, and how many tiles and roots follow."""
     check(reader.u32() == 1, 15)
     background, tiles, count = reader.u32(), reader.u32(), reader.u32()
     check(count <= 256, 16)
+    return background, tiles, count
+
+
+def topology(reader, coding, tiles, count):
+    """The roots. A root has its origin, value mask, values and 4-nodes, a 4-node its origin, value mask, values and leaves, a leaf its origin
+    and mask."""
     reader.take(17 * tiles)
     roots, origins = [], set()
     for _ in range(count):
@@ -241,7 +255,7 @@ def topology(reader, coding):
             leaves = [(moved(origin4, place4, 16, 8), reader.mask(512)) for place4 in rising(child4)]
             nodes.append((origin4, value4, stored4, leaves))
         roots.append((origin, value5, stored5, nodes))
-    return background, roots
+    return roots
 
 
 def block(reader, coding, origin, mask):
@@ -279,10 +293,11 @@ class Opened:
         grid = file.grid(asked)
         check(grid.type[2] in (b'Tree_float_5_4_3', b'Tree_float_5_4_3_HalfFloat'), 12)
         check(not grid.parent[2], 13)
-        coding = Coding(file.version, grid.flags, width(grid))
         reader = Reader(data, grid.tree)
         self.map = transform(reader)
-        self.background, self.tree = topology(reader, coding)
+        self.background, tiles, roots = head(reader)
+        coding = Coding(file.version, grid.flags, width(grid), self.background)
+        self.tree = topology(reader, coding, tiles, roots)
         self.roots = len(self.tree)
         nodes = [node for root in self.tree for node in root[3]]
         leaves = [leaf for node in nodes for leaf in node[3]]

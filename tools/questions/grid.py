@@ -303,7 +303,7 @@ def zeros(flags, width, count):
     return number + bytes(count * width)
 
 
-def built(version, flags, entries, width, leaves, ending=''):
+def built(version, flags, entries, width, leaves, ending='', background=BACKGROUND):
     """A file with the tree of A, but for its leaves, whose masks are given, up to where their blocks start. The end is at the grid."""
     start, word = front(version, flags, ending)
     at = len(start) + 24
@@ -311,7 +311,7 @@ def built(version, flags, entries, width, leaves, ending=''):
     byte = b'' if version < 222 else b'\0'
     fewer = 1 if version < 222 else 0
     tree = word + joined(entries) + joined(string(MAP)) + bytes(120)
-    tree += FIELD['buffer count'] + BACKGROUND + joined(fields('tile count', 'root count', 'root origin'))
+    tree += FIELD['buffer count'] + background + joined(fields('tile count', 'root count', 'root origin'))
     tree += joined(fields('5-node, child mask', '5-node, value mask')) + byte + zeros(flags, width, (32768 - fewer) * every)
     tree += with_bits(512, *range(4096 - len(leaves), 4096)) + bytes(512) + byte
     tree += zeros(flags, width, (4096 - fewer * len(leaves)) * every) + b''.join(leaves)

@@ -11,6 +11,7 @@ import os
 
 import archive
 import grid
+import inactive
 import openvdb
 import origins
 import parts
@@ -25,6 +26,7 @@ q = Questions()
 archive.ask(q)
 grid.ask(q)
 raw.ask(q)
+inactive.ask(q)
 openvdb.ask(q)
 transforms.ask(q)
 walks.ask(q)

@@ -1,6 +1,6 @@
 """The stored files, and what OpenVDB's library says of them.
 
-tools/openvdb describes each of them, in NAME.txt and NAME.document, by a program against OpenVDB's own library (its README.md
+tools/openvdb describes each of them, in NAME.txt and NAME.values, by a program against OpenVDB's own library (its README.md
 has the form of the lines). The answers here are those lines in another order; the reader of document.py must give the same.
 """
 import re

@@ -91,6 +91,9 @@ def halves(q):
 
 # A node's child mask is at 0, its value mask and its values follow.
 
+BACKGROUND = 0x3fc00000
+
+
 def node_items(data, coding, size):
     """The value of each place, 8589934592 for a child, then where the values end."""
     child, value = (int.from_bytes(data[at:at + size], 'little') for at in (0, size))
@@ -105,7 +108,7 @@ def node_items(data, coding, size):
 def ask_node(q, coding, size, start=0, end=None):
     end = 8 * size + 1 if end is None else end
     items = node_items(q.file(), coding, size)[start:end]
-    q.ask('Node %d %d %d %d %d %d' % (start, end, coding.version, coding.flags, coding.width, size), summed(items))
+    q.ask('Node %d %d %d %d %d %d %d' % (start, end, coding.version, coding.flags, coding.width, size, coding.background), summed(items))
     return items
 
 
@@ -116,35 +119,35 @@ def apart(size):
 
 
 def nodes(q):
-    q.comment('== Node FROM TO VERSION FLAGS WIDTH BYTES: the values of places, and where they end')
+    q.comment('== Node FROM TO VERSION FLAGS WIDTH BYTES BACKGROUND: the values of places, and where they end')
     q.new(2500)
     q.change(0, apart(64))
     q.random(128, 2372, 500)
     for byte in (0, 1, 2, 3, 4, 5, 6, 7, 255):
         q.put(128, bytes([byte]))
         for flags, width in ((0, 2), (2, 2), (0, 4), (2, 4)):
-            end = ask_node(q, Coding(224, flags, width), 64)[-1]
+            end = ask_node(q, Coding(224, flags, width, BACKGROUND), 64)[-1]
             if byte < 7:
                 q.size(end)
-                ask_node(q, Coding(224, flags, width), 64, 510)
+                ask_node(q, Coding(224, flags, width, BACKGROUND), 64, 510)
                 q.size(end - 1)
-                ask_node(q, Coding(224, flags, width), 64, 510)
+                ask_node(q, Coding(224, flags, width, BACKGROUND), 64, 510)
                 q.size(2500)
-    for coding in (Coding(222, 2, 4), Coding(221, 2, 4), Coding(220, 0, 2)):
+    for coding in (Coding(222, 2, 4, BACKGROUND), Coding(221, 2, 4, BACKGROUND), Coding(220, 0, 2, BACKGROUND)):
         ask_node(q, coding, 64)
     q.comment('a 4-node of form 3, and the same bytes under 222')
     q.new(18000)
     q.change(0, apart(512))
     q.random(1024, 16976, 0)
     q.put(1024, b'\3')
-    ask_node(q, Coding(224, 2, 2), 512)
-    ask_node(q, Coding(220, 0, 4), 512)
+    ask_node(q, Coding(224, 2, 2, BACKGROUND), 512)
+    ask_node(q, Coding(220, 0, 4, BACKGROUND), 512)
     q.comment('a 5-node of form 5, and the same bytes under 222')
     q.new(150000)
     q.random(0, 150000, 9)
     q.put(8192, b'\5')
-    ask_node(q, Coding(223, 2, 2), 4096)
-    ask_node(q, Coding(221, 2, 4), 4096)
+    ask_node(q, Coding(223, 2, 2, BACKGROUND), 4096)
+    ask_node(q, Coding(221, 2, 4, BACKGROUND), 4096)
 
 
 def must_end(q, coding, end):
@@ -169,15 +172,15 @@ def numbers_before_runs(q):
             q.random(128, 2372, 500 + flags)
             q.put(128, bytes([byte]))
             q.quad(at, 2 ** 64 - size)
-            must_end(q, Coding(224, flags, width), at + 8 + size)
+            must_end(q, Coding(224, flags, width, BACKGROUND), at + 8 + size)
             for number, expected in (1, 6), (1 - size, 25):
                 q.quad(at, number % 2 ** 64)
-                assert ask_node(q, Coding(224, flags, width), 64, 511) == 2 * [4294967296 + expected]
+                assert ask_node(q, Coding(224, flags, width, BACKGROUND), 64, 511) == 2 * [4294967296 + expected]
     q.comment('the same under 222')
     for version, width in ((220, 4), (221, 2)):
         size = width * bits(q, 0, 64).count(0)
         q.quad(128, 2 ** 64 - size)
-        must_end(q, Coding(version, 1, width), 136 + size)
+        must_end(q, Coding(version, 1, width, BACKGROUND), 136 + size)
 
 
 def numbers_before_nothing(q):
@@ -185,15 +188,15 @@ def numbers_before_nothing(q):
     q.comment('no place is active')
     q.new(140)
     for flags in (3, 6, 7):
-        must_end(q, Coding(224, flags, 4), 137)
-        must_end(q, Coding(224, flags, 2), 129)
+        must_end(q, Coding(224, flags, 4, BACKGROUND), 137)
+        must_end(q, Coding(224, flags, 2, BACKGROUND), 129)
     q.comment('each place has a child')
     q.put(0, 64 * b'\xff')
-    must_end(q, Coding(220, 1, 4), 136)
+    must_end(q, Coding(220, 1, 4, BACKGROUND), 136)
     for number, expected in (1, 6), (-1, 25):
         q.quad(128, number % 2 ** 64)
-        assert ask_node(q, Coding(220, 1, 4), 64, 511) == 2 * [4294967296 + expected]
-        assert ask_node(q, Coding(221, 1, 2), 64)[-1] == 128
+        assert ask_node(q, Coding(220, 1, 4, BACKGROUND), 64, 511) == 2 * [4294967296 + expected]
+        assert ask_node(q, Coding(221, 1, 2, BACKGROUND), 64)[-1] == 128
 
 
 def marked(q):
@@ -204,12 +207,48 @@ def marked(q):
     q.put(128, b'\5', struct.pack('<II', 0x11, 0x22), b'\x10')
     q.put(201, struct.pack('<III', 0xa0, 0xa1, 0xa2))
     for place, held in ((5, 0xa1), (4, 0x22), (3, 0x11)):
-        assert ask_node(q, Coding(224, 2, 4), 64, place, place + 1) == [held]
+        assert ask_node(q, Coding(224, 2, 4, BACKGROUND), 64, place, place + 1) == [held]
     q.comment('version 220, children 0 and 2: place 3')
     q.new(2500)
     q.put(0, b'\5')
     q.put(128, struct.pack('<IIII', 0xb0, 0xb1, 0xb2, 0xb3))
-    assert ask_node(q, Coding(220, 0, 4), 64, 3, 4) == [0xb1]
+    assert ask_node(q, Coding(220, 0, 4, BACKGROUND), 64, 3, 4) == [0xb1]
+
+
+# A node byte, and what is held by an inactive place of its node and by a selected one, where 0x11 and 0x22 are read: written by hand (N1).
+HELD = [(0, 0x3fc00000, 0x3fc00000), (1, 0xbfc00000, 0xbfc00000), (2, 0x11, 0x11), (3, 0xbfc00000, 0x3fc00000), (4, 0x11, 0x3fc00000),
+        (5, 0x11, 0x22)]
+# A background and minus it: zeros, infinities, a signalling and a quiet NaN, the least number; and a pattern whose low half would be a number.
+MINUS = [(0, 0x80000000), (0x80000000, 0), (0x7f800000, 0xff800000), (0xff800000, 0x7f800000), (0x7f812345, 0xff812345), (0xffc00001, 0x7fc00001),
+         (1, 0x80000001), (0xffffffff, 0x7fffffff), (0x3c00, 0x80003c00), (0xbc00, 0x8000bc00)]
+
+
+def put_inactive(q, size, byte):
+    """A node with children 0 and 1, ones 2, 5 and 9, and places 4 and 5 selected."""
+    q.new(2 * size + 4200)
+    q.put(0, b'\3')
+    q.put(size, b'\x24\2')
+    read = struct.pack('<II', 0x11, 0x22)[:{2: 4, 4: 4, 5: 8}.get(byte, 0)]
+    q.put(2 * size, bytes([byte]) + read + (b'\x30' if byte in (3, 4, 5) else b''))
+
+
+def inactives(q):
+    q.comment('== each node byte, places 4 and 5 selected: places 3 and 4 of a leaf, of a 4-node and of a 5-node')
+    for byte, *held in HELD:
+        for size in (64, 512, 4096):
+            put_inactive(q, size, byte)
+            for width in (4, 2):
+                assert ask_node(q, Coding(224, 2, width, BACKGROUND), size, 3, 5) == held
+    q.comment('minus the background: bytes 1 and 3, and the background of byte 0')
+    for byte in (0, 1, 3):
+        put_inactive(q, 64, byte)
+        for background, minus in MINUS:
+            for width in (4, 2):
+                found = ask_node(q, Coding(224, 2, width, background), 64, 3, 5)
+                assert found == {0: 2 * [background], 1: 2 * [minus], 3: [minus, background]}[byte]
+    q.comment('without flag 2, and under 222, every place is stored')
+    for version, flags in ((224, 0), (220, 0)):
+        assert ask_node(q, Coding(version, flags, 4, BACKGROUND), 64, 3, 5) == 2 * [0]
 
 
 # Sections 4 and 7, with Python's own // and %, whose remainder by m is 0 to m - 1 also for a negative number
@@ -268,4 +307,5 @@ def ask(q):
     numbers_before_runs(q)
     numbers_before_nothing(q)
     marked(q)
+    inactives(q)
     coordinates(q)

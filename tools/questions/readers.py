@@ -52,22 +52,23 @@ def stored(name):
 
 @functools.cache
 def printed(name, ending):
-    """What tools/openvdb has printed of a file: txt, document or openvdb."""
+    """What tools/openvdb has printed of a file: txt, values or read."""
     with open(os.path.join(DESCRIBED, '%s.%s' % (name, ending)), encoding='ascii') as file:
         return file.read().splitlines()
 
 
 def leaves(name):
     """For each grid's number the 512 patterns of each of its leaves."""
-    return {grid: [values for _, values in found] for grid, found in by_openvdb.leaves(printed(name, 'document')).items()}
+    return {grid: [values for _, values in found] for grid, found in by_openvdb.leaves(printed(name, 'values')).items()}
 
 
 def origins(name):
     """For each grid's number the origin of each of its leaves."""
-    return {grid: [origin for origin, _ in found] for grid, found in by_openvdb.leaves(printed(name, 'document')).items()}
+    return {grid: [origin for origin, _ in found] for grid, found in by_openvdb.leaves(printed(name, 'values')).items()}
 
 
-def by_library(name, side, values=False):
+def by_library(name, side='values', values=False):
+    """OpenVDB's text; with the side `read` it has zero wherever the file brings no value (D38)."""
     return by_openvdb.text(printed(name, 'txt'), printed(name, side), values, more=True)
 
 
@@ -97,23 +98,20 @@ def lines_of(name, word):
 # Each reader's comment
 
 def openvdb_line(name):
-    pair = [[line for line in by_library(name, side).splitlines() if line.startswith('leaf ')] for side in ('document', 'openvdb')]
-    background = sum(one != other for one, other in zip(*pair, strict=True))
     tiles = sum(int(line.split()[-1]) for line in lines_of(name, 'roottiles'))
     if not lines_of(name, 'grids'):
         return 'OpenVDB 10: not asked, since document 01 refuses the file'
     parts = ['OpenVDB 10: the answers below']
-    if background:
-        parts.append('the background in place of zero in inactive places of ' + counted(background, 'leaf', len(pair[0])))
     if tiles:
         parts.append(counted(tiles, 'active root tile') + ' not listed')
     return '; '.join(parts)
 
 
 def model_line(name, asked):
-    text = '\n'.join(by_document.lines(stored(name), values=True, more=True)) + '\n'
-    library = by_library(name, 'document', values=True)
-    must(text == library, name, 'model | OpenVDB:', str(canonical.first_difference(text, library)))
+    for read in (True, False):
+        text = '\n'.join(by_document.lines(stored(name), values=True, more=True, read=read)) + '\n'
+        library = by_library(name, 'read' if read else 'values', values=True)
+        must(text == library, name, 'model | OpenVDB:', str(canonical.first_difference(text, library)))
     parts = ['the model, by tools/questions/document.py over the bytes: the same ' + counted(asked, 'answer')]
     for word, before in (('leaf', 'each value of '), ('record', '')):
         number = sum(line.startswith(word + ' ') for line in text.splitlines())
@@ -146,16 +144,16 @@ def by_place(name, number):
 
 def other_things(name, found, rust, expected, numbers):
     """What the Rust says otherwise, by rows of docs/DIFFERENCES.md, in words."""
-    rows, version = {}, int(expected.get((None, 'version'), 0))
+    rows, version, read = {}, int(expected.get((None, 'version'), 0)), canonical.items(by_library(name, 'read'))
     for thing, one, other in found:
-        row = listed.row(thing, one, other, version, rust, expected)
+        row = listed.row(thing, one, other, version, rust, expected, read)
         words = one.split()
         exact = row != 'D24' or thing[1] != 'record' or words[6:] == by_place(name, numbers[thing[0]]).get(' '.join(words[:3]))
         must(row and exact, name, str(thing), 'the Rust: %s | expected: %s' % (one, other))
         word = {'answer': 'answered' if one == 'answered' else one.split(':')[0], 'background': 'no background'}.get(thing[1], thing[1])
         rows.setdefault(row, {}).setdefault(word, []).append(numbers[thing[0]])
     for row in sorted(rows, key=lambda row: int(row[1:])):
-        parts = [(counted(len(grids), word) if word == 'record' else word) + ' in ' + in_grids(set(grids))
+        parts = [(counted(len(grids), word) if word in ('leaf', 'record') else word) + ' in ' + in_grids(set(grids))
                  for word, grids in rows[row].items()]
         yield '%s (%s)' % (row, joined(parts))
 
@@ -163,7 +161,7 @@ def other_things(name, found, rust, expected, numbers):
 def rust_line(name):
     kept = answers.kept(name, stored(name))
     must(kept, name, 'has no answers of the Rust in compare/rust/answers, or they are of other bytes')
-    text = canonical.shortened(by_library(name, 'document'))
+    text = canonical.shortened(by_library(name))
     must(kept.splitlines()[0] == text.splitlines()[0], name, 'is not as long as the Rust says')
     rust, expected = canonical.items(kept), canonical.items(text)
     numbers = {None: None, **{line.split(' ', 2)[2]: number for number, line in enumerate(lines_of(name, 'name'))}}

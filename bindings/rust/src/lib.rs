@@ -360,7 +360,7 @@ pub struct Grid<'f> {
 }
 
 impl<'f> Grid<'f> {
-    /// The value outside the tree.
+    /// The value outside the tree. Inactive places of leaves hold it too, or minus it, where the file has no value for them.
     pub fn background(&self) -> f32 {
         f32::from_bits(self.background)
     }
@@ -410,7 +410,8 @@ impl<'f> Grid<'f> {
         walk(self.file, place, x, y, z, level, value)
     }
 
-    /// Fills 512 slots with the values of a leaf, as float patterns: place p of the leaf is x = p / 64, y = p / 8 % 8, z = p % 8.
+    /// Fills 512 slots with the values of a leaf, as float patterns: place p of the leaf is x = p / 64, y = p / 8 % 8, z = p % 8. Inactive places hold
+    /// what OpenVDB has there: the value that the file gives, or where it gives none the background or minus the background.
     ///
     /// [`ParseError::NoSuchLeaf`] if there is no leaf of this number, or not 512 slots; the slots are then as they were. The call opens the grid anew.
     pub fn fill_leaf(&self, leaf: u64, slots: &mut [u32]) -> Result<(), ParseError> {

@@ -2,7 +2,7 @@
 
 mod common;
 
-use common::{a_numbered, case_a, digest, half_entries, many_tiles, openvdb, read, refused_files};
+use common::{a_numbered, a_with, case_a, digest, half_entries, many_tiles, openvdb, read, refused_files};
 use std::collections::BTreeSet;
 use std::fmt::Write;
 use wuraiko::{walk, Compression, Grid, Map, MetadataValue, ParseError, Place, VdbLevel, VdbReader, Walked};
@@ -45,14 +45,36 @@ fn listing(records: &[Record]) -> String {
     text
 }
 
+/// Origin and values of each leaf.
+fn leaves(grid: &Grid) -> Vec<([i32; 3], Vec<u32>)> {
+    let count = grid.leaf_count() as usize;
+    let (mut x, mut y, mut z, mut values) = (vec![0; count], vec![0; count], vec![0; count], vec![0; 512 * count]);
+    grid.leaf_origins(0, &mut x, &mut y, &mut z).unwrap();
+    grid.fill_leaves(0, &mut values).unwrap();
+    values.chunks(512).enumerate().map(|(i, values)| ([x[i], y[i], z[i]], values.to_vec())).collect()
+}
+
+/// The leaves as `describe` of tools/openvdb prints them.
+fn values(grid: &Grid) -> String {
+    let mut text = String::new();
+    for (number, ([x, y, z], values)) in leaves(grid).iter().enumerate() {
+        writeln!(text, "leaf {number} {x} {y} {z}").unwrap();
+        for row in values.chunks(8) {
+            let row: Vec<_> = row.iter().map(|value| format!("{value:08x}")).collect();
+            writeln!(text, "{}", row.join(" ")).unwrap();
+        }
+    }
+    text
+}
+
 /// The grid's line of openvdb.txt, without the box.
 fn described(grid: &Grid) -> String {
-    let records = iterated(grid);
-    format!("leaves {} records {} {:016x}", grid.leaf_count(), grid.active_count(), digest(&listing(&records)))
+    let (records, values) = (digest(&listing(&iterated(grid))), digest(&values(grid)));
+    format!("leaves {} records {} {records:016x} {values:016x}", grid.leaf_count(), grid.active_count())
 }
 
 #[test]
-fn records_are_those_of_openvdb() {
+fn records_and_leaves_are_those_of_openvdb() {
     let mut accepted = 0;
     for (name, number, expected) in openvdb() {
         let file = read(&name);
@@ -75,7 +97,7 @@ fn records_are_those_of_openvdb() {
         }
         accepted += 1;
     }
-    assert_eq!(accepted, 35);
+    assert_eq!(accepted, 47);
 }
 
 #[test]
@@ -88,6 +110,53 @@ fn case_a_is_listed_as_in_document_01() {
     let mut leaf = [7; 512];
     grid.fill_leaf(0, &mut leaf).unwrap();
     assert!(leaf.iter().enumerate().all(|(p, value)| *value == if p == 74 { 0x3f800000 } else { 0 }));
+}
+
+#[test]
+fn inactive_places_of_case_a_hold_the_background() {
+    // The background stands at 262, the leaf's node byte at 9632.
+    for (background, byte, expected) in [
+        (0x40000000u32, 0, 0x40000000),
+        (0x40000000, 1, 0xc0000000),
+        (0x80000000, 0, 0x80000000),
+        (0x80000000, 1, 0),
+        (0xffa00001, 0, 0xffa00001),
+        (0xffa00001, 1, 0x7fa00001),
+    ] {
+        let mut file = a_with(262, &background.to_le_bytes());
+        file[9632] = byte;
+        let grid = VdbReader::new(&file).unwrap().read_grid("d").unwrap();
+        assert_eq!(grid.background().to_bits(), background);
+        let mut leaf = [7; 512];
+        grid.fill_leaf(0, &mut leaf).unwrap();
+        assert!(leaf.iter().enumerate().all(|(p, value)| *value == if p == 74 { 0x3f800000 } else { expected }));
+    }
+}
+
+#[test]
+fn a_level_set_is_three_outside_and_minus_three_inside() {
+    // tools/openvdb/make_clouds.cc has OpenVDB make a sphere around this voxel: its band of active voxels lies between the two.
+    let (file, centre) = (read("levelset_active.vdb"), [-63, 66, -20]);
+    let grid = VdbReader::new(&file).unwrap().read_grid("surface").unwrap();
+    let active: BTreeSet<_> = iterated(&grid).into_iter().map(|(x, y, z, ..)| [x, y, z]).collect();
+    assert_eq!(grid.background(), 3.0);
+    let (mut inside, mut outside) = (0, 0);
+    for (origin, values) in leaves(&grid) {
+        for (p, value) in values.into_iter().map(f32::from_bits).enumerate() {
+            let place = [origin[0] + p as i32 / 64, origin[1] + p as i32 / 8 % 8, origin[2] + p as i32 % 8];
+            let square: i32 = (0..3).map(|axis| (place[axis] - centre[axis]).pow(2)).sum();
+            if active.contains(&place) {
+                assert!(value.abs() < 3.0);
+            } else if square <= 9 {
+                assert_eq!(value, -3.0);
+                inside += 1;
+            } else {
+                assert_eq!(value, 3.0);
+                outside += 1;
+            }
+        }
+    }
+    assert_eq!((inside, outside), (123, 8807));
 }
 
 #[test]

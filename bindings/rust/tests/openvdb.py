@@ -3,8 +3,9 @@
     python3 openvdb.py DESCRIBE FILE.. > openvdb.txt
 
 DESCRIBE is the program of tools/openvdb, which asks OpenVDB's library. A line has the file, the grid's number, and either `refused` and a check, or
-the number of leaves, of records, a digest of the records (FNV-1a of 64 bits over the lines of the listing, `records N` first), and the box around them.
-A file that does not open, or has no grid, has one line without a grid's number.
+the number of leaves, of records, a digest of the records (FNV-1a of 64 bits over the lines of the listing, `records N` first), one of the leaves
+(over the lines of `describe FILE values`, origins and all values), and the box around the records. A file that does not open, or has no grid, has one
+line without a grid's number.
 """
 import os
 import re
@@ -28,21 +29,30 @@ def box(records):
     return ' '.join(str(n) for n in low + high)
 
 
-def grid_line(lines):
+def described(*words):
+    return subprocess.run([sys.argv[1], *words], check=True, capture_output=True, text=True).stdout.splitlines()
+
+
+def starts(lines):
+    """Where the grids' lines start, and where the last one's end."""
+    return [i for i, line in enumerate(lines) if re.fullmatch(r'grid \d+', line)] + [len(lines)]
+
+
+def grid_line(lines, values):
     refused = [line for line in lines if line.startswith('refused ')]
     if refused:
         return refused[0]
     leaves = next(line for line in lines if line.startswith('leaves '))
     first = next(i for i, line in enumerate(lines) if line.startswith('records '))
     listing = ''.join(line + '\n' for line in lines[first:])
-    return '%s %s %016x %s' % (leaves, lines[first], digest(listing), box(lines[first + 1:]))
+    return '%s %s %016x %016x %s' % (leaves, lines[first], digest(listing), digest(''.join(line + '\n' for line in values)), box(lines[first + 1:]))
 
 
 for path in sys.argv[2:]:
-    name = os.path.basename(path)
-    lines = subprocess.run([sys.argv[1], path], check=True, capture_output=True, text=True).stdout.splitlines()
-    starts = [i for i, line in enumerate(lines) if re.fullmatch(r'grid \d+', line)] + [len(lines)]
-    if len(starts) == 1:
+    name, lines, values = os.path.basename(path), described(path), described(path, 'values')
+    at, beside = starts(lines), starts(values)
+    assert len(at) == len(beside), name
+    if len(at) == 1:
         print(name, lines[-1])
-    for a, b in zip(starts, starts[1:]):
-        print(name, lines[a].split()[1], grid_line(lines[a + 1:b]))
+    for a, b, c, d in zip(at, at[1:], beside, beside[1:]):
+        print(name, lines[a].split()[1], grid_line(lines[a + 1:b], values[c + 1:d]))

@@ -169,7 +169,7 @@ fn what_is_shown_of_a_grid_is_what_openvdb_says() {
         assert_eq!(field(part, "leaves").replace(',', ""), words[1]);
         assert_eq!(field(part, "records").split(':').next().unwrap().replace(',', ""), words[3]);
         assert_eq!((grid.get("records").word(), grid.get("leaves").word()), (words[3], words[1]));
-        let corners = words[5..].join(" ");
+        let corners = words[6..].join(" ");
         assert_eq!(field(part, "box").replace("to ", ""), corners, "{name} {number}");
         let numbers = match grid.get("box") {
             Value::Word(null) => null.replace("null", "empty"),

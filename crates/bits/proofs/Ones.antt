@@ -13,7 +13,9 @@ use lib.Bits.{bitAnd, and-step, and-self, shifted-half, shifted-even}
 use lib.Pow.{shl-shr, shr-shr}
 use Rattle.fields.specs.Parse.{when}
 use Rattle.masks.specs.Masks.{digit, countBelow}
+use Rattle.masks.specs.Inner.{onesPast}
 use Rattle.masks.proofs.Digits.{digit-shift, digit-past, trailing-zero, trailing-one, trailing-lt}
+use Rattle.masks.proofs.Ones.{none-left}
 use Rattle.forms.specs.declared.Coding.{Coding}
 use Rattle.half.specs.Half.{storedValue}
 use Rattle.coordinates.specs.Coordinates.{index, globalOf, aligned}
@@ -21,82 +23,11 @@ use Rattle.coordinates.specs.declared.GlobalCoord.{GlobalCoord}
 use Rattle.tree.specs.Active.{sideOf, edgeOf}
 use Rattle.slots.specs.Slots.{Slots}
 use Rattle.slots.specs.Inner.{recordOf, standing, Readable}
-use Rattle.bits.specs.Inner.{nothing, andThen, skipped, InWord, shifted, past, handWord, onesPast, numberIn, pastActive, LeafWord}
+use Rattle.bits.specs.Inner.{nothing, andThen, skipped, InWord, shifted, past, handWord, numberIn, pastActive, LeafWord}
 use Rattle.slots.specs.declared.Inside.{Inside}
 use Rattle.bits.specs.declared.Bits.{Bits}
 use Rattle.slots.proofs.Laws.{readable-on}
 use Rattle.bits.proofs.Laws.{Going, starts, word-past, hand-none, turn-one, record-is, gap-inside}
-
--- The lowest one is taken off.
-pub lowest-off : (k x : ℕ) → (x ≡ 0 → ⊥) → x < 2 ^ k → bitAnd x (x - 1) ≡ onesPast x (suc (trailingZeros k x))
-unfolding trailingZeros
-lowest-off zero x n h = absurd (n (omega arith))
-lowest-off (suc k) x n h = go (lowest-off k (x / 2)) (x % 2) refl
-  where
-    some-set : 0 < x
-    some-set = lt-of-not-le (λ l. n (omega arith))
-
-    go : ((x / 2 ≡ 0 → ⊥) → x / 2 < 2 ^ k → bitAnd (x / 2) (x / 2 - 1) ≡ onesPast (x / 2) (suc (trailingZeros k (x / 2)))) → (d : ℕ) → x % 2 ≡ d →
-        bitAnd x (x - 1) ≡ onesPast x (suc (under d (trailingZeros k (x / 2))))
-    go later zero e =
-        let t = suc (trailingZeros k (x / 2)) in
-        let half : (x - 1) / 2 ≡ x / 2 - 1 = omega (arith, some-set) in
-        let off = rw (shr-shr x 1 t) at (later (λ z. n (omega arith)) (omega (arith, h, pow-suc 2 k))) in
-        let twice : x / 2 ^ suc t * 2 ^ suc t ≡ x / 2 ^ suc t * 2 ^ t * 2 = ap (λ (n : ℕ). x / 2 ^ suc t * n) (pow-suc 2 t) ∙ sym (mul-assoc (x / 2 ^ suc t) (2 ^ t) 2) in
-        omega (arith, rw (half, e, zero-min) at (and-step x (x - 1)), rw (one-add t) at off, twice)
-    go later (suc d) e =
-        let half : (x - 1) / 2 ≡ x / 2 = omega (arith, some-set) in
-        let low : (x - 1) % 2 ≡ 0 = omega (arith, some-set) in
-        omega (arith, rw (half, and-self (x / 2)) at (and-step x (x - 1)), low)
-
--- below bit p there are none
-none-below : (m p j : ℕ) → j < p → digit (m * 2 ^ p) j ≡ false
-unfolding digit
-none-below m zero j h = absurd (omega arith)
-none-below m (suc p) zero h = ne-eqb (m * 2 ^ suc p / 1 % 2) 1 (λ e. omega (arith, shifted-even m p, e))
-none-below m (suc p) (suc j) h = rw (one-add j) at (sym (digit-shift (m * 2 ^ suc p) 1 j)) ∙ ap (λ (x : ℕ). digit x j) (shifted-half m p) ∙ none-below m p j (omega arith)
-
--- a one with zeros below it is the lowest
-trailing-is : (k x q : ℕ) → q < k → digit x q ≡ true → ((j : ℕ) → j < q → digit x j ≡ false) → trailingZeros k x ≡ q
-trailing-is k x q h one zeros =
-    let a : trailingZeros k x < suc q = lt-of-not-le (λ l. true≢false (sym one ∙ trailing-zero k x q l)) in
-    let b : q < suc (trailingZeros k x) = lt-of-not-le (λ l. true≢false (sym (trailing-one k x (omega arith)) ∙ zeros (trailingZeros k x) l)) in
-    omega arith
-
--- the lowest one from bit p on
-module _ (v p : ℕ) (small : v < 2 ^ 64) (some-set : v / 2 ^ p ≡ 0 → ⊥) (inside : v / 2 ^ p < 2 ^ 64) where
-  abbrev gap : ℕ
-  gap = trailingZeros 64 (v / 2 ^ p)
-
-  there : digit (v / 2 ^ p) gap ≡ true
-  there = trailing-one 64 (v / 2 ^ p) (trailing-lt 64 (v / 2 ^ p) inside some-set)
-
-  moved : (j : ℕ) → digit (onesPast v p) (p + j) ≡ digit (v / 2 ^ p) j
-  moved j = sym (digit-shift (onesPast v p) p j) ∙ ap (λ (x : ℕ). digit x j) (shl-shr (v / 2 ^ p) p)
-
-  pub lowest-past : trailingZeros 64 (onesPast v p) ≡ p + gap
-  lowest-past =
-      trailing-is 64 (onesPast v p) (p + gap)
-      (lt-of-not-le (λ l. true≢false (sym there ∙ digit-shift v p gap ∙ digit-past 64 v (p + gap) small l)))
-      (moved gap ∙ there)
-      (λ j l. go j l (ltb j p) refl)
-    where
-      go : (j : ℕ) → j < p + gap → (b : Bool) → ltb j p ≡ b → digit (onesPast v p) j ≡ false
-      go j l true e = none-below (v / 2 ^ p) p j (ltb-true _ _ e)
-      go j l false e =
-          let k : p ≤ j = ltb-false j p e in
-          let d : p + (j - p) ≡ j = omega arith in
-          rw d at (moved (j - p)) ∙ trailing-zero 64 (v / 2 ^ p) (j - p) (omega arith)
-
--- ones from bit p on, and of these the ones from bit q on
-pub past-on : (v p q : ℕ) → p ≤ q → onesPast (onesPast v p) q ≡ onesPast v q
-past-on v p q l =
-    let d = q - p in
-    let e : p + d ≡ q = omega arith in
-    rw e at (ap (λ (x : ℕ). x * 2 ^ (p + d)) (sym (shr-shr (onesPast v p) p d) ∙ ap (λ (x : ℕ). x / 2 ^ d) (shl-shr (v / 2 ^ p) p) ∙ shr-shr v p d))
-
-pub none-left : (v p : ℕ) → onesPast v p ≡ 0 → v / 2 ^ p ≡ 0
-none-left v p e = sym (shl-shr (v / 2 ^ p) p) ∙ ap (λ (x : ℕ). x / 2 ^ p) e ∙ zero-div (2 ^ p)
 
 -- Behind places that are behind others.
 pub past-past : (b : Bits) (p k q m : ℕ) → past (past b p k) q m ≡ past b (p + q) m

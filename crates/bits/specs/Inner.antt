@@ -104,10 +104,6 @@ passed b z = shifted b z .inside
 abbrev pub pastActive : Bits → ℕ → Bits
 pastActive b n = past b n (b .inside .number + n)
 
--- the ones of b from bit p on, each where it was
-abbrev pub onesPast : ℕ → ℕ → ℕ
-onesPast b p = b / 2 ^ p * 2 ^ p
-
 -- the number of the next stored value behind p places, k of them active: all are stored, or the active ones
 unfoldable pub numberIn : Inside → ℕ → ℕ → ℕ
 numberIn w p k = when (eqb (w .stored) 0) (w .number + p) (w .number + k)

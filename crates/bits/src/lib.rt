@@ -5,7 +5,7 @@ ghost use lib.Count.{trailingZeros};
 ghost use Rattle.masks.specs.Masks.{digit, countBelow};
 ghost use Rattle.slots.specs.Slots.{slotsOf};
 ghost use Rattle.slots.specs.Inner.{Room, Readable, standing};
-ghost use Rattle.bits.specs.Inner.{Fills, InWord, LeafWord, SumsFit, handWord, skipped, passed, shifted, pastActive, onesPast, numberIn};
+ghost use Rattle.bits.specs.Inner.{Fills, InWord, LeafWord, SumsFit, handWord, skipped, passed, shifted, pastActive, numberIn};
 use coordinates::Index;
 use forms::Coding;
 use slots::Inside;
@@ -146,14 +146,6 @@ pub fn fill_any(
     }
 }
 
-// The ones of a word above its lowest one.
-fn past_lowest(b: u64) -> u64
-    requires { ⌜ (b < 2 ^ 64) × (b ≡ 0 → ⊥) ⌝ }
-    ensures { λ r. ⌜ r ≡ onesPast b (trailingZeros 64 b + 1) ⌝ }
-{
-    b & (b - 1)
-}
-
 // The number of the next stored value behind p places of a leaf, k of them active: all are stored, or the active ones.
 fn number_behind(w: Inside, p: u32, k: usize) -> usize
     requires { ⌜ (w .number + p ≤ 1024) × (k ≤ p) ⌝ }
@@ -219,7 +211,7 @@ pub fn fill_ones(
             level,
             value,
         );
-        ones = past_lowest(ones);
+        ones = masks::past_lowest(ones);
         p = q + 1;
         i = i + 1;
     }

@@ -15,9 +15,9 @@ form-reads : {s t : List ℕ} {lo at : ℕ} (version : ℕ) → Reads s t lo at 
 unfolding formField formSelected
 form-reads version = search reads
 
-inactive-reads : {s t : List ℕ} {lo at : ℕ} (b : Bool) → Reads s t lo at (inactiveField s b at) (inactiveField t b at)
+inactive-reads : {s t : List ℕ} {lo at : ℕ} (b : Bool) (other : ℕ) → Reads s t lo at (inactiveField s b other at) (inactiveField t b other at)
 unfolding inactiveField
-inactive-reads b = search reads
+inactive-reads b other = search reads
 
 -- a selection mask of n bytes, where there is one, is the same in both files
 abbrev pub SameSelection : List ℕ → List ℕ → ℕ → Selection → Type 0
@@ -30,10 +30,11 @@ selection-tells {s} {t} true n = then-tells (part-tells n) λ w p e x. got-tells
 selection-tells {s} {t} false n = got-tells (SameSelection s t n) λ l h. tt
 
 inactives-tells :
-    {s t : List ℕ} {lo at : ℕ} (form : Form) (n : ℕ) → Tells s t lo at (λ v. SameSelection s t n (v .selection)) (inactivesField s form n at) (inactivesField t form n at)
+    {s t : List ℕ} {lo at : ℕ} (background : ℕ) (form : Form) (n : ℕ) →
+    Tells s t lo at (λ v. SameSelection s t n (v .selection)) (inactivesField s background form n at) (inactivesField t background form n at)
 unfolding inactivesField
-inactives-tells {s} {t} form n =
-    then-plain (inactive-reads _) λ first p e. then-plain (inactive-reads _) λ second q f. then-tells (selection-tells _ n) λ w r g x.
+inactives-tells {s} {t} background form n =
+    then-plain (inactive-reads _ _) λ first p e. then-plain (inactive-reads _ _) λ second q f. then-tells (selection-tells _ n) λ w r g x.
     got-tells (λ v. SameSelection s t n (v .selection)) x
 
 pub head-tells :
@@ -41,4 +42,4 @@ pub head-tells :
     Tells s t lo at (λ h. SameSelection s t n (h .inactives .selection)) (headField s c old n at) (headField t c old n at)
 unfolding headField
 head-tells {s} {t} c old n =
-    then-plain (form-reads _) λ form p e. then-tells (inactives-tells form n) λ inactives q f x. got-tells (λ h. SameSelection s t n (h .inactives .selection)) x
+    then-plain (form-reads _) λ form p e. then-tells (inactives-tells _ form n) λ inactives q f x. got-tells (λ h. SameSelection s t n (h .inactives .selection)) x

@@ -28,11 +28,13 @@ unfolding selectionField when
 selection-held true s n at h k = then-always _ _ _ λ w p e. got-always _ _ _ (whole-mask s at n h k e)
 selection-held false s n at h k = got-always _ _ _ tt
 
-inactives-held : (form : Form) (s : List ℕ) (n at : ℕ) → n % 8 ≡ 0 → n ≤ 4096 → Always (λ v p. selectionHeld s n (v .selection)) (inactivesField s form n at)
+inactives-held :
+    (background : ℕ) (form : Form) (s : List ℕ) (n at : ℕ) → n % 8 ≡ 0 → n ≤ 4096 →
+    Always (λ v p. selectionHeld s n (v .selection)) (inactivesField s background form n at)
 unfolding inactivesField
-inactives-held form s n at h k = then-always _ _ _ λ first p e. then-always _ _ _ λ second q f. then-always _ _ _ λ w r g. got-always _ _ _
+inactives-held background form s n at h k = then-always _ _ _ λ first p e. then-always _ _ _ λ second q f. then-always _ _ _ λ w r g. got-always _ _ _
     (selection-held _ s n q h k w r g)
 
 pub head-held : (c : Coding) (old : Stored) (s : List ℕ) (n at : ℕ) → n % 8 ≡ 0 → n ≤ 4096 → Always (λ h p. selectionHeld s n (h .inactives .selection)) (headField s c old n at)
 unfolding headField
-head-held c old s n at h k = then-always _ _ _ λ form p e. then-always _ _ _ λ v q f. got-always _ _ _ (inactives-held form s n p h k v q f)
+head-held c old s n at h k = then-always _ _ _ λ form p e. then-always _ _ _ λ v q f. got-always _ _ _ (inactives-held _ form s n p h k v q f)

@@ -1,6 +1,6 @@
 -- Section 5: what stands before a node's stored values, with check 19 of section 8.
 -- A node is given by the number n of bytes of its masks.
-use Prim.Native.Nat.{ℕ, _/_, _%_}
+use Prim.Native.Nat.{ℕ, _+_, _-_, _/_, _%_}
 use mathlib.Core.List.{List}
 use mathlib.Core.Bool.{Bool, not, _&&_, _||_}
 use lib.Dec.{leb, ltb, eqb}
@@ -19,12 +19,13 @@ use Rattle.forms.specs.declared.ValuesHead.{ValuesHead}
 unfoldable pub mayPack : ℕ → Bool
 mayPack flags = eqb (flags % 2) 1 || eqb (flags / 4 % 2) 1
 
--- What the node byte b says. 2, 4 and 5 bring an inactive value, 5 one more; 3, 4 and 5 bring a selection mask; 6 stores inactive places too,
--- also under flag 0x2.
+-- What the node byte b says. 2, 4 and 5 bring an inactive value, 5 one more; with 1 and 3 minus the background stands for the first one; 3, 4 and
+-- 5 bring a selection mask; 6 stores inactive places too, also under flag 0x2.
 abbrev pub formOf : ℕ → Form
 formOf b = record {
   «has_first» = eqb b 2 || eqb b 4 || eqb b 5;
   «has_second» = eqb b 5;
+  negated = eqb b 1 || eqb b 3;
   «has_selection» = eqb b 3 || eqb b 4 || eqb b 5;
   «only_active» = not (eqb b 6);
 }
@@ -40,9 +41,13 @@ formField s version at =
     (got (formOf 6) at)
     (then (u8Field s at) λ b p. formSelected b p)
 
--- an inactive value, four bytes at either width; zero where none is brought
-unfoldable pub inactiveField : List ℕ → Bool → ℕ → Parse ℕ
-inactiveField s brought at = when brought (u32Field s at) (got 0 at)
+-- minus a float, by its pattern (N1): the top bit flipped, also of a zero, an infinity and a NaN
+unfoldable pub minus : ℕ → ℕ
+minus v = when (ltb v 2147483648) (v + 2147483648) (v - 2147483648)
+
+-- an inactive value, four bytes at either width; where none is brought, the one that stands for it
+unfoldable pub inactiveField : List ℕ → Bool → ℕ → ℕ → Parse ℕ
+inactiveField s brought other at = when brought (u32Field s at) (got other at)
 
 -- the selection mask, with a bit for each place, where one is brought
 unfoldable pub selectionField : List ℕ → Bool → ℕ → ℕ → Parse Selection
@@ -51,11 +56,12 @@ selectionField s brought n at =
     (then (bytesField s n at) λ w p. got (At (w .start)) p)
     (got Nothing at)
 
--- what a form brings for the inactive places
-unfoldable pub inactivesField : List ℕ → Form → ℕ → ℕ → Parse Inactives
-inactivesField s form n at =
-    then (inactiveField s (form .«has_first») at) λ first p.
-    then (inactiveField s (form .«has_second») p) λ second q.
+-- What the inactive places hold (N1): a first value, and a second one for those that are selected. Where the form brings none, the grid's background
+-- stands for either, negated for the first where the form says so.
+unfoldable pub inactivesField : List ℕ → ℕ → Form → ℕ → ℕ → Parse Inactives
+inactivesField s background form n at =
+    then (inactiveField s (form .«has_first») (when (form .negated) (minus background) background) at) λ first p.
+    then (inactiveField s (form .«has_second») background p) λ second q.
     then (selectionField s (form .«has_selection») n q) λ selection r.
     got (record { first = first; second = second; selection = selection }) r
 
@@ -74,5 +80,5 @@ storedBy c old form =
 unfoldable pub headField : List ℕ → Coding → Stored → ℕ → ℕ → Parse ValuesHead
 headField s c old n at =
     then (formField s (c .version) at) λ form p.
-    then (inactivesField s form n p) λ inactives q.
+    then (inactivesField s (c .background) form n p) λ inactives q.
     got (record { stored = storedBy c old form; inactives = inactives }) q

@@ -1,11 +1,12 @@
-// Document 01, section 5: what stands before a node's stored values. The node byte selects one of seven forms, which says what is carried for the
-// inactive places and which places are stored. A node is given by the number n of bytes of each of its masks.
+// Document 01, section 5: what stands before a node's stored values. The node byte selects one of seven forms, which says what the inactive places
+// hold, with the grid's background where nothing is carried for them, and which places are stored. A node is given by the number n of bytes of each
+// of its masks.
 ghost use mathlib.Core.Path.{_≡_};
-ghost use Rattle.fields.specs.Parse.{field};
+ghost use Rattle.fields.specs.Parse.{field, when};
 ghost use Rattle.fields.specs.Says.{saysU32};
 ghost use Rattle.half.specs.Inner.{isWidth};
 ghost use Rattle.half.specs.Half.{storedValue};
-ghost use Rattle.forms.specs.Forms.{mayPack, formSelected, formField, inactiveField, selectionField, inactivesField, storedBy, headField};
+ghost use Rattle.forms.specs.Forms.{mayPack, formSelected, formField, minus, inactiveField, selectionField, inactivesField, storedBy, headField};
 ghost use Rattle.forms.specs.Inner.{saysForm, saysSelection, saysInactives, saysHead};
 use fields::SpanField;
 use fields::U8Field;
@@ -20,11 +21,12 @@ pub struct Coding {
     pub background: u32,
 }
 
-// What a node byte selects: whether a first and a second inactive value are carried, whether a selection mask is, and whether flag 0x2
-// leaves only the active places.
+// What a node byte selects: whether a first and a second inactive value are carried, whether the background stands negated for the first, whether a
+// selection mask is carried, and whether flag 0x2 leaves only the active places.
 pub struct Form {
     pub has_first: bool,
     pub has_second: bool,
+    pub negated: bool,
     pub has_selection: bool,
     pub only_active: bool,
 }
@@ -89,12 +91,19 @@ pub fn may_pack(flags: u32) -> bool
 }
 
 // A row of the table of forms below.
-fn form_with(has_first: bool, has_second: bool, has_selection: bool, only_active: bool) -> Form
-    ensures { λ r. ⌜ r ≡ record { «has_first» = «has_first»; «has_second» = «has_second»; «has_selection» = «has_selection»; «only_active» = «only_active» } ⌝ }
+fn form_with(
+    has_first: bool,
+    has_second: bool,
+    negated: bool,
+    has_selection: bool,
+    only_active: bool,
+) -> Form
+    ensures { λ r. ⌜ r ≡ record { «has_first» = «has_first»; «has_second» = «has_second»; negated = negated; «has_selection» = «has_selection»; «only_active» = «only_active» } ⌝ }
 {
     Form {
         has_first,
         has_second,
+        negated,
         has_selection,
         only_active,
     }
@@ -105,12 +114,13 @@ fn select_form(b: u8, p: usize) -> FormField
     ensures { λ r. ⌜ saysForm r ≡ formSelected b p ⌝ }
 {
     match b {
-        0 | 1 => FormField::Got(form_with(false, false, false, true), p),
-        2 => FormField::Got(form_with(true, false, false, true), p),
-        3 => FormField::Got(form_with(false, false, true, true), p),
-        4 => FormField::Got(form_with(true, false, true, true), p),
-        5 => FormField::Got(form_with(true, true, true, true), p),
-        6 => FormField::Got(form_with(false, false, false, false), p),
+        0 => FormField::Got(form_with(false, false, false, false, true), p),
+        1 => FormField::Got(form_with(false, false, true, false, true), p),
+        2 => FormField::Got(form_with(true, false, false, false, true), p),
+        3 => FormField::Got(form_with(false, false, true, true, true), p),
+        4 => FormField::Got(form_with(true, false, false, true, true), p),
+        5 => FormField::Got(form_with(true, true, false, true, true), p),
+        6 => FormField::Got(form_with(false, false, false, false, false), p),
         7..=255 => FormField::Unknown,
     }
 }
@@ -120,7 +130,7 @@ fn read_form(s: &[u8], version: u32, at: usize) -> FormField
     ensures { λ r. ⌜ saysForm r ≡ formField (now (s .entry)) version at ⌝ }
 {
     if version < 222 {
-        return FormField::Got(form_with(false, false, false, false), at);
+        return FormField::Got(form_with(false, false, false, false, false), at);
     }
     match fields::read_u8(s, at) {
         U8Field::Got(b, p) => select_form(b, p),
@@ -139,14 +149,42 @@ fn read_value(s: &[u8], at: usize, width: usize) -> U32Field
     U32Field::Got(half::value_at(s, at, width), at + width)
 }
 
-// An inactive value, of 4 bytes whatever the width of the stored values is, where one is carried.
-fn read_inactive(s: &[u8], carried: bool, at: usize) -> U32Field
-    ensures { λ r. ⌜ saysU32 r ≡ inactiveField (now (s .entry)) carried at ⌝ }
+// Minus a float, by its pattern.
+fn minus(v: u32) -> u32
+    ensures { λ r. ⌜ r ≡ minus v ⌝ }
+{
+    if v < 0x8000_0000 {
+        return v + 0x8000_0000;
+    }
+    v - 0x8000_0000
+}
+
+// What stands for the first inactive value where none is carried.
+fn unread(form: Form, background: u32) -> u32
+    ensures { λ r. ⌜ r ≡ when (form .negated) (minus background) background ⌝ }
+{
+    if form.negated {
+        return minus(background);
+    }
+    background
+}
+
+// An inactive value, of 4 bytes whatever the width of the stored values is; where none is carried, the other one.
+fn read_inactive(s: &[u8], carried: bool, other: u32, at: usize) -> U32Field
+    ensures { λ r. ⌜ saysU32 r ≡ inactiveField (now (s .entry)) carried other at ⌝ }
 {
     if carried {
         return read_value(s, at, 4);
     }
-    U32Field::Got(0, at)
+    U32Field::Got(other, at)
+}
+
+// The first inactive value.
+fn read_first(s: &[u8], background: u32, form: Form, at: usize) -> U32Field
+    ensures { λ r. ⌜ saysU32 r ≡ inactiveField (now (s .entry)) (form .«has_first») (when (form .negated) (minus background) background) at ⌝ }
+{
+    let other = unread(form, background);
+    read_inactive(s, form.has_first, other, at)
 }
 
 // A selection mask of n bytes, where one is carried.
@@ -162,14 +200,14 @@ fn read_selection(s: &[u8], carried: bool, n: usize, at: usize) -> SelectionFiel
     SelectionField::Got(Selection::Nothing, at)
 }
 
-// What a form carries.
-fn read_inactives(s: &[u8], form: Form, n: usize, at: usize) -> InactivesField
-    ensures { λ r. ⌜ saysInactives r ≡ inactivesField (now (s .entry)) form n at ⌝ }
+// What the inactive places hold: what a form carries, and the background for what it does not.
+fn read_inactives(s: &[u8], background: u32, form: Form, n: usize, at: usize) -> InactivesField
+    ensures { λ r. ⌜ saysInactives r ≡ inactivesField (now (s .entry)) background form n at ⌝ }
 {
-    let U32Field::Got(first, p) = read_inactive(s, form.has_first, at) else {
+    let U32Field::Got(first, p) = read_first(s, background, form, at) else {
         return InactivesField::Past;
     };
-    let U32Field::Got(second, q) = read_inactive(s, form.has_second, p) else {
+    let U32Field::Got(second, q) = read_inactive(s, form.has_second, background, p) else {
         return InactivesField::Past;
     };
     match read_selection(s, form.has_selection, n, q) {
@@ -208,7 +246,7 @@ pub fn read_head(s: &[u8], c: Coding, old: Stored, n: usize, at: usize) -> Value
     match read_form(s, c.version, at) {
         FormField::Past => ValuesHeadField::Refused(2),
         FormField::Unknown => ValuesHeadField::Refused(19),
-        FormField::Got(form, p) => match read_inactives(s, form, n, p) {
+        FormField::Got(form, p) => match read_inactives(s, c.background, form, n, p) {
             InactivesField::Past => ValuesHeadField::Refused(2),
             InactivesField::Got(inactives, q) => {
                 let stored = stored_by(c, old, form);

@@ -1,10 +1,10 @@
 -- Laws of a run of leaves that is being laid out, by which the functions' proofs go.
 use mathlib.Core.Path.{_≡_, refl, sym, ap, _∙_}
 use mathlib.Core.List.{List, [], _∷_, _++_, append-assoc, append-nil, flatMap}
-use Prim.Native.Nat.{ℕ, suc, _+_, _-_, _≤_, _<_}
+use Prim.Native.Nat.{ℕ, suc, _-_, _/_, _≤_, _<_}
 use native.Mathlib.Omega.{arith}
-use lib.ListN.{length, take, drop, length-append}
-use lib.Seq.{take-at, drop-at, length-take-le}
+use lib.ListN.{length, drop, length-append}
+use lib.Seq.{drop-at}
 use Rattle.tree.specs.Active.{Piece}
 use Rattle.leaves.specs.Inner.{fromLeaves}
 
@@ -39,8 +39,8 @@ module _ {A : Type 0} {f : Piece → List A} {l : List Piece} {first n : ℕ} wh
           so-far = rw (x, append-assoc, ← b) (h .so-far);
         }
 
--- values put behind the first slots
-pub put-behind : (at : ℕ) (slots values rest : List ℕ) → at ≤ length slots → length values ≡ 512 → take (at + 512) (take at slots ++ (values ++ rest)) ≡ take at slots ++ values
-put-behind at slots values rest h n =
-    let e : length (take at slots ++ values) ≡ at + 512 = simp (length-append, length-take-le at slots h) (omega arith) in
-    rw (← append-assoc) (take-at (take at slots ++ values) rest (at + 512) e)
+-- where nothing is lent, nothing is asked for
+pub no-slots : (f : Piece → List ℕ) (l : List Piece) (first : ℕ) (slots : List ℕ) → length slots ≡ 0 → slots ≡ fromLeaves f l first (length slots / 512)
+unfolding flatMap
+no-slots f l first [] e = refl
+no-slots f l first (x ∷ slots) e = absurd (omega arith)

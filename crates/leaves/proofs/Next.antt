@@ -1,13 +1,14 @@
 -- The next leaf behind so many leaves: where a pass over pieces stops that may take any number of records.
 use mathlib.Core.Path.{_≡_, refl, sym, ap, _∙_}
-use mathlib.Core.List.{List, [], _∷_, _++_}
+use mathlib.Core.List.{List, [], _∷_, _++_, append-assoc}
 use mathlib.Core.Bool.{Bool, true, false, _&&_}
 use mathlib.Core.Option.{Option}
-use Prim.Native.Nat.{ℕ, _+_, _-_, _≤_, _<_}
+use Prim.Native.Nat.{ℕ, suc, _+_, _-_, _≤_, _<_}
 use native.Mathlib.Omega.{arith}
 use lib.Dec.{eqb, leb}
-use lib.ListN.{length, length-append}
-use borrow.Author.Tests.{eqb-true, leb-true}
+use lib.ListN.{length, drop, length-append}
+use lib.Seq.{drop-at}
+use borrow.Author.Tests.{eqb-true, leb-true, eq-eqb, ne-eqb}
 use Rattle.fields.specs.Parse.{when}
 use Rattle.coordinates.proofs.Axis.{and-both}
 use Rattle.half.specs.Inner.{isWidth}
@@ -16,7 +17,7 @@ use Rattle.forms.specs.declared.Coding.{Coding}
 use Rattle.tree.specs.Active.{Piece}
 use Rattle.tree.specs.Inner.{recordCount, leafCount}
 use Rattle.tree.proofs.Counting.{total, total-append}
-use Rattle.cursor.specs.Inner.{Stop, toCome, HeldPiece}
+use Rattle.cursor.specs.Inner.{Rest, Stop, stop, toCome, HeldPiece}
 use Rattle.cursor.specs.declared.Cursor.{Cursor}
 use Rattle.skip.specs.Inner.{Skip, before, ended, refused, skipping, skipFrom}
 use Rattle.skip.proofs.Laws.{recordsIn, leavesIn, skip-stops}
@@ -62,6 +63,9 @@ leaf-most q = go (eqb (q .level) 0)
     go true = omega arith
     go false = omega arith
 
+pub held-leaf : {s : List ℕ} {c : Coding} {q : Piece} → HeldPiece s c q → q .level ≡ 0 → Held s c 64 (q .value) (q .value) (q .values)
+held-leaf h z = rw (h .leaf z) at (rw z at (h .held))
+
 -- Behind k leaves comes the one at t.
 pub record NextLeaf (s : List ℕ) (c : Coding) (k : ℕ) (x : Cursor) (t : Stop) : Type 0 where
   pub front : List Piece
@@ -95,9 +99,6 @@ module _ (s : List ℕ) (c : Coding) (wide : isWidth (c .width)) (x : Cursor) (f
       stopped : (a b : ℕ) → (b ≤ a → ⊥) → a < b
       stopped a b f = omega (arith, f)
 
-      held-leaf : {q : Piece} → HeldPiece s c q → q .level ≡ 0 → Held s c 64 (q .value) (q .value) (q .values)
-      held-leaf {q} h z = rw (h .leaf z) at (rw z at (h .held))
-
   -- where there are more leaves, it is neither the end nor a refusal
   more : (ts : List Stop) (r : Option ℕ) (n k : ℕ) → recordsIn s ts ≤ n → k < leavesIn ts → (t : Stop) × (n' : ℕ) × (k' : ℕ) × (before t n' k' ≡ skipping s n k ts r)
   unfolding skipping total when
@@ -124,3 +125,31 @@ module _ (s : List ℕ) (c : Coding) (wide : isWidth (c .width)) (x : Cursor) (f
 
     pub no-refusal : {j : ℕ} → refused j ≡ skipFrom s c most k x → ⊥
     no-refusal e = let f = found .3 in let z : _≡_ {A = ℕ} 0 1 = cc in omega arith
+
+-- Behind it come the leaves but for the first ones and itself.
+pub leaves-behind : (s : List ℕ) (c : Coding) (k : ℕ) (x : Cursor) {t : Stop} → NextLeaf s c k x t → leavesFrom s c (t .behind) ≡ drop (suc k) (leavesFrom s c x)
+leaves-behind s c k x {t} n =
+    let past = n .front ++ (t .piece ∷ []) in
+    let many : length past ≡ suc k = omega (arith, length-append (n .front) (t .piece ∷ []), n .passed) in
+    sym (ap (drop (suc k)) (n .split ∙ sym (append-assoc (n .front) (t .piece ∷ []) (leavesFrom s c (t .behind)))) ∙ drop-at past (leavesFrom s c (t .behind)) (suc k) many)
+
+-- The next piece: a leaf, or another.
+module _ (s : List ℕ) (c : Coding) (x : Cursor) {y : Cursor} {q : Piece} (e : stop q y (toCome s c y) ≡ toCome s c x) where
+  items : toCome s c x .items ≡ record { piece = q; behind = y } ∷ toCome s c y .items
+  items = ap (λ (r : Rest Stop). r .items) (sym e)
+
+  pub one-fewer : length (toCome s c y .items) < length (toCome s c x .items)
+  one-fewer = omega (arith, ap length items)
+
+  pub leaf-next : q .level ≡ 0 → leavesFrom s c x ≡ q ∷ leavesFrom s c y
+  unfolding leavesAmong when
+  leaf-next z = ap leavesAmong items ∙ rw (eq-eqb _ 0 z)
+
+  pub none-next : (q .level ≡ 0 → ⊥) → leavesFrom s c x ≡ leavesFrom s c y
+  unfolding leavesAmong when
+  none-next z = ap leavesAmong items ∙ rw (ne-eqb _ 0 z)
+
+-- or none
+pub no-piece : (s : List ℕ) (c : Coding) (x : Cursor) {r : Rest Stop} → r ≡ toCome s c x → r .items ≡ [] → length (leavesFrom s c x) ≡ 0
+unfolding leavesAmong
+no-piece s c x e z = ap length (ap leavesAmong (ap (λ (r : Rest Stop). r .items) (sym e) ∙ z))

@@ -3,12 +3,14 @@ ghost use mathlib.Core.Path.{_≡_};
 ghost use mathlib.Core.Bool.{_&&_};
 ghost use Prim.Native.Nat.{_-_, _/_, _%_};
 ghost use lib.Dec.{leb};
-ghost use lib.ListN.{length};
+ghost use lib.ListN.{length, drop};
 ghost use Rattle.fields.specs.Parse.{when};
 ghost use Rattle.leaves.specs.Leaves.{fillLeaf, fillLeafNamed, fillLeafNumbered, fillLeaves, fillLeavesNamed, fillLeavesNumbered};
 ghost use Rattle.leaves.specs.Answers.{saysFill, keptBy};
 ghost use Rattle.leaves.specs.Inner.{startCursor, leavesFrom, valuesOf, HasLeaves, rightSlots};
 use archive::Asked;
+use cursor::Cursor;
+use cursor::NextPiece;
 use grid::GridAnswer;
 use place::Start;
 use skip::Skipped;
@@ -18,27 +20,47 @@ pub enum FillAnswer {
     Refused(u32),
 }
 
-// Fills the slots with the values of the leaves that a cursor hands out, but for the first ones. No tree has as many records as may be passed between two
-// leaves, so that only a leaf ends a pass.
+// The cursor behind the first leaves. No tree has as many records as may be passed, so that only a leaf ends the pass: the last one of them.
+fn behind_leaves(s: &[u8], start: Start, first: u64) -> Cursor
+    requires { ⌜ HasLeaves (now s) start first 1 ⌝ }
+    ensures { λ r. ⌜ leavesFrom (now (s .entry)) (start .coding) r ≡ drop first (leavesFrom (now (s .entry)) (start .coding) (startCursor start)) ⌝ }
+{
+    let c = start.coding;
+    let x = cursor::between_roots(start.root_count, start.roots_pos, start.block_pos);
+    if first == 0 {
+        return x;
+    }
+    match skip::skip(s, c, x, 0xffff_ffff_ffff_ffff, first - 1) {
+        Skipped::End(_, _) => x,
+        Skipped::Refused(_) => x,
+        Skipped::Before(_, behind, _, _) => behind,
+    }
+}
+
+// Fills the slots with the values of the leaves from a number on. They are taken piece by piece: a pass for each leaf would cost as much as its values.
 fn fill_run(s: &[u8], start: Start, first: u64, slots: &mut [u32])
     requires { ⌜ HasLeaves (now s) start first (length (now slots) / 512) × (length (now slots) % 512 ≡ 0) ⌝ }
     ensures { λ _. ⌜ now (slots .exit) ≡ valuesOf (now (s .entry)) (start .coding) (leavesFrom (now (s .entry)) (start .coding) (startCursor start)) first (length (now (slots .entry)) / 512) ⌝ }
 {
+    if slots.len() == 0 {
+        return;
+    }
     let c = start.coding;
-    let mut cursor = cursor::between_roots(start.root_count, start.roots_pos, start.block_pos);
-    let mut pass = first;
+    let mut cursor = behind_leaves(s, start, first);
     let mut at = 0;
     while at < slots.len() {
-        match skip::skip(s, c, cursor, 0xffff_ffff_ffff_ffff, pass) {
-            Skipped::End(_, _) => return,
-            Skipped::Refused(_) => return,
-            Skipped::Before(q, behind, _, _) => {
+        match cursor::next_piece(s, c, cursor) {
+            NextPiece::End => return,
+            NextPiece::Refused(_) => return,
+            NextPiece::At(q, behind) => {
+                cursor = behind;
+                if q.level != 0 {
+                    continue;
+                }
                 let end = at + 512;
                 let mask = q.value;
                 let values = q.values;
-                values::fill_leaf(s, c, mask, values, &mut slots[at..end]);
-                cursor = behind;
-                pass = 0;
+                expand::fill_leaf(s, c, mask, values, &mut slots[at..end]);
                 at = end;
             }
         }

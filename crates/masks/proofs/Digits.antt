@@ -103,7 +103,7 @@ low-true : (x d : ℕ) → x % 2 ≡ suc d → digit x 0 ≡ true
 unfolding digit
 low-true x d e = let h : x / 1 % 2 ≡ 1 = omega arith in rw h
 
-digit-suc : (x q : ℕ) → digit x (suc q) ≡ digit (x / 2) q
+pub digit-suc : (x q : ℕ) → digit x (suc q) ≡ digit (x / 2) q
 digit-suc x q = let e : suc q ≡ 1 + q = omega arith in rw e (sym (digit-shift x 1 q))
 
 pub trailing-zero : (k x j : ℕ) → j < trailingZeros k x → digit x j ≡ false

@@ -1,5 +1,5 @@
 -- Inner matter: only contracts of inner functions cite it, and nothing here has to be believed.
-use Prim.Native.Nat.{ℕ, _+_, _-_, _%_, _^_, _≤_, _<_}
+use Prim.Native.Nat.{ℕ, _+_, _-_, _*_, _/_, _%_, _^_, _≤_, _<_}
 use mathlib.Core.Path.{_≡_}
 use mathlib.Core.Bool.{Bool, not}
 use mathlib.Core.Option.{Option, none, some}
@@ -32,3 +32,7 @@ saysNext Nothing = none
 pub record IsWord (f : ℕ → Bool) (p w : ℕ) : Type 0 where
   pub below : w < 2 ^ 64
   pub bits : (q : ℕ) → q < 64 → digit w q ≡ f (p + q)
+
+-- the ones of w from bit p on, each where it was
+abbrev pub onesPast : ℕ → ℕ → ℕ
+onesPast w p = w / 2 ^ p * 2 ^ p

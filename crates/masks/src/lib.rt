@@ -3,8 +3,9 @@
 // in the file.
 ghost use mathlib.Core.Path.{_≡_};
 ghost use Prim.Native.Nat.{_+_, _*_, _/_, _%_, _^_, _≤_, _<_};
+ghost use lib.Count.{trailingZeros};
 ghost use Rattle.masks.specs.Masks.{maskBit, countBelow, overlap, agree};
-ghost use Rattle.masks.specs.Inner.{zerosBelow, IsMask, nextOne, saysNext, IsWord};
+ghost use Rattle.masks.specs.Inner.{zerosBelow, IsMask, nextOne, saysNext, IsWord, onesPast};
 use coordinates::Index;
 
 // The next one of a mask, if there is one.
@@ -90,6 +91,14 @@ pub fn high_bits(w: u64, r: usize) -> u64
     ensures { λ x. ⌜ x ≡ w / 2 ^ r ⌝ }
 {
     w >> r
+}
+
+// The ones of a word above its lowest one.
+pub fn past_lowest(w: u64) -> u64
+    requires { ⌜ (w < 2 ^ 64) × (w ≡ 0 → ⊥) ⌝ }
+    ensures { λ r. ⌜ r ≡ onesPast w (trailingZeros 64 w + 1) ⌝ }
+{
+    w & (w - 1)
 }
 
 // The next one in the words from byte `from` on.

@@ -110,13 +110,21 @@ fn half(i: usize) -> u64 {
 
 // The value of place p of the node whose child mask stands at 0: 4294967296 and the refusal where the values are refused, 8589934592 where the
 // place has a child. Past the last place: where the values end.
-fn value_of(s: &[u8], version: u32, flags: u32, width: usize, n: usize, p: usize) -> u64 {
+fn value_of(
+    s: &[u8],
+    version: u32,
+    flags: u32,
+    width: usize,
+    n: usize,
+    background: u32,
+    p: usize,
+) -> u64 {
     let bytes = n / 8 % 513 * 8;
     let coding = Coding {
         version,
         flags,
         width: 4 - width / 2 % 2 * 2,
-        background: 0,
+        background,
     };
     if s.len() < 2 * bytes {
         return 0;
@@ -136,7 +144,15 @@ fn value_of(s: &[u8], version: u32, flags: u32, width: usize, n: usize, p: usize
 }
 
 fn place(s: &[u8], n: &[u64; 8], p: usize) -> u64 {
-    value_of(s, low(n[3]), low(n[4]), n[5] as usize, n[6] as usize, p)
+    value_of(
+        s,
+        low(n[3]),
+        low(n[4]),
+        n[5] as usize,
+        n[6] as usize,
+        low(n[7]),
+        p,
+    )
 }
 
 fn low(n: u64) -> u32 {

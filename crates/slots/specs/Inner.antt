@@ -4,13 +4,13 @@ use mathlib.Core.Path.{_≡_}
 use mathlib.Core.List.{List, [], _∷_, _++_}
 use mathlib.Core.Bool.{true}
 use Prim.Native.Nat.{ℕ, zero, suc, _+_, _-_, _*_, _/_, _≤_}
-use lib.ListN.{length, set}
+use lib.ListN.{length}
 use lib.IntN.{ℤ}
 use Rattle.forms.specs.declared.Coding.{Coding}
 use Rattle.half.specs.Inner.{isWidth}
-use Rattle.half.specs.Half.{storedValue}
 use Rattle.coordinates.specs.Coordinates.{index, globalOf, aligned, places}
 use Rattle.coordinates.specs.declared.GlobalCoord.{GlobalCoord}
+use Rattle.batch.specs.Inner.{numbered}
 use Rattle.tree.specs.Active.{Record, sideOf, edgeOf}
 use Rattle.slots.specs.Slots.{Slots}
 use Rattle.slots.specs.declared.Inside.{Inside}
@@ -55,23 +55,14 @@ pub record Readable (s : List ℕ) (c : Coding) (room : ℕ) (w : Inside) : Type
   pub multiple : aligned (edgeOf (w .level) * sideOf (w .level)) (w .origin) ≡ true
   pub number : w .number ≤ w .from
 
--- the corner of the k-th place from the next one on, and the value with the k-th number from the next one on
+-- the corner of the k-th place from the next one on
 abbrev pub cornerAt : Inside → ℕ → GlobalCoord
 cornerAt w k = globalOf (edgeOf (w .level)) (sideOf (w .level)) (w .origin) (index (w .from + k))
 
-unfoldable pub valueAt : List ℕ → Coding → Inside → ℕ → ℕ
-valueAt s c w k = storedValue s (c .width) (w .start + (w .number + k) * c .width)
-
 -- the records of the next n places, if all are active
 unfoldable pub runOf : List ℕ → Coding → Inside → ℕ → List Record
-unfolding valueAt
 runOf s c w zero = []
-runOf s c w (suc n) = runOf s c w n ++ recordOf (cornerAt w n) (w .level) (valueAt s c w n) ∷ []
-
--- n elements from i on set, the k-th to f k
-unfoldable pub ranged : {A : Type 0} → List A → ℕ → ℕ → (ℕ → A) → List A
-ranged xs i zero f = xs
-ranged xs i (suc n) f = set (ranged xs i n f) (i + n) (f n)
+runOf s c w (suc n) = runOf s c w n ++ recordOf (cornerAt w n) (w .level) (numbered s c (w .start) (w .number) n) ∷ []
 
 -- a coordinate along x, y or z: axis 0, 1 or else
 abbrev pub axisOf : GlobalCoord → ℕ → ℤ

@@ -3,13 +3,11 @@ ghost use mathlib.Core.Path.{_≡_};
 ghost use mathlib.Core.Bool.{true};
 ghost use Prim.Native.Nat.{_+_, _*_, _%_, _≤_, _<_};
 ghost use lib.ListN.{length};
-ghost use Rattle.fields.specs.Le.{u16At};
-ghost use Rattle.half.specs.Half.{widened};
-ghost use Rattle.half.specs.Inner.{areNormal};
 ghost use Rattle.coordinates.specs.Coordinates.{places, globalOf, aligned};
 ghost use Rattle.tree.specs.Active.{sideOf, edgeOf};
+ghost use Rattle.batch.specs.Inner.{ranged};
 ghost use Rattle.slots.specs.Slots.{slotsOf, put, laidFrom};
-ghost use Rattle.slots.specs.Inner.{Room, Readable, maskBytes, recordOf, cornerAt, valueAt, axisOf, ranged, runOf};
+ghost use Rattle.slots.specs.Inner.{Room, Readable, maskBytes, recordOf, cornerAt, axisOf, runOf};
 use coordinates::GlobalCoord;
 use coordinates::Index;
 use forms::Coding;
@@ -102,60 +100,6 @@ fn fill_axis(w: Inside, axis: u32, slot: usize, x: &mut [i32])
     }
 }
 
-// The level of 64 records.
-fn fill_level(l: u32, slot: usize, level: &mut [u32])
-    requires { ⌜ slot + 64 ≤ length (now level) ⌝ }
-    ensures { λ u. ⌜ now (level .exit) ≡ ranged (now (level .entry)) slot 64 (λ k. l) ⌝ }
-{
-    let mut k: usize = 0;
-    while k < 64 {
-        let at = slot + k;
-        level[at] = l;
-        k = k + 1;
-    }
-}
-
-// 64 normal halves from a position on: one after the other with no test between, so that the compiler vectorises the loop.
-fn fill_normal(s: &[u8], at: usize, slot: usize, value: &mut [u32])
-    requires { ⌜ (at + 128 ≤ length (now s)) × (areNormal (now s) at 64 ≡ true) × (slot + 64 ≤ length (now value)) ⌝ }
-    ensures { λ u. ⌜ now (value .exit) ≡ ranged (now (value .entry)) slot 64 (λ k. widened (u16At (now (s .entry)) (at + k * 2))) ⌝ }
-{
-    let mut k: usize = 0;
-    while k < 64 {
-        let i = slot + k;
-        value[i] = half::widen_normal(fields::u16_at(s, at + k * 2) as u16);
-        k = k + 1;
-    }
-}
-
-// The values of the next 64 places, of either width and any kind.
-fn fill_stored(s: &[u8], c: Coding, room: usize, w: Inside, slot: usize, value: &mut [u32])
-    requires { ⌜ Readable (now s) c room w × (w .number + 64 ≤ room) × (w .from ≤ 32704) × (slot + 64 ≤ length (now value)) ⌝ }
-    ensures { λ u. ⌜ now (value .exit) ≡ ranged (now (value .entry)) slot 64 (valueAt (now (s .entry)) c w) ⌝ }
-{
-    let mut k: usize = 0;
-    while k < 64 {
-        let i = slot + k;
-        value[i] = values::stored_value(s, c, w.start, w.number + k);
-        k = k + 1;
-    }
-}
-
-// The values of the next 64 places. Halves that are all normal, as they mostly are, stand apart.
-fn fill_values(s: &[u8], c: Coding, room: usize, w: Inside, slot: usize, value: &mut [u32])
-    requires { ⌜ Readable (now s) c room w × (w .number + 64 ≤ room) × (w .from ≤ 32704) × (slot + 64 ≤ length (now value)) ⌝ }
-    ensures { λ u. ⌜ now (value .exit) ≡ ranged (now (value .entry)) slot 64 (valueAt (now (s .entry)) c w) ⌝ }
-{
-    if c.width == 2 {
-        let at = w.start + w.number * 2;
-        if half::are_normal(s, at) {
-            fill_normal(s, at, slot, value);
-            return;
-        }
-    }
-    fill_stored(s, c, room, w, slot, value);
-}
-
 // The records of the next 64 places, all active. Each slice is filled by a loop of its own, which the compiler vectorises.
 pub fn fill_full(
     s: &[u8],
@@ -175,6 +119,6 @@ pub fn fill_full(
     fill_axis(w, 0, slot, x);
     fill_axis(w, 1, slot, y);
     fill_axis(w, 2, slot, z);
-    fill_level(w.level, slot, level);
-    fill_values(s, c, room, w, slot, value);
+    batch::fill_same(w.level, slot, level);
+    batch::fill_values(s, c, w.start, w.number, slot, value);
 }

@@ -1,27 +1,19 @@
-// Document 01, section 5: the value of each place of a node, and all values of a leaf. A node is given by the number n of bytes of each of its
-// masks and by where these stand: its child mask at `child`, its value mask at `value`. A leaf has no child mask; nothing of a leaf is looked up
-// there, and its value mask's position stands in.
+// Document 01, section 5: the value of each place of a node. A node is given by the number n of bytes of each of its masks and by where these stand:
+// its child mask at `child`, its value mask at `value`. A leaf has no child mask; nothing of a leaf is looked up there, and its value mask's position
+// stands in.
 ghost use mathlib.Core.Path.{_≡_};
 ghost use Prim.Native.Nat.{_+_, _*_, _<_};
-ghost use lib.ListN.{length};
 ghost use Rattle.half.specs.Inner.{isWidth};
 ghost use Rattle.half.specs.Half.{storedValue};
 ghost use Rattle.forms.specs.Inner.{selectionHeld};
-ghost use Rattle.runs.specs.Runs.{numberOf};
 ghost use Rattle.runs.specs.Inner.{Held};
-ghost use Rattle.values.specs.Values.{inactiveValue, placeValue, leafValues};
+ghost use Rattle.values.specs.Values.{inactiveValue, placeValue};
 ghost use Rattle.values.specs.Inner.{InRun};
 use coordinates::Index;
 use forms::Coding;
 use forms::Inactives;
 use forms::Selection;
 use runs::Values;
-
-// The value of a place, and the number of the next stored value.
-pub struct Placed {
-    pub value: u32,
-    pub next: usize,
-}
 
 // What an inactive place holds.
 fn inactive_value(s: &[u8], n: usize, v: Inactives, p: Index) -> u32
@@ -49,7 +41,7 @@ pub fn stored_value(s: &[u8], c: Coding, start: usize, k: usize) -> u32
     half::value_at(s, start + k * 4, 4)
 }
 
-// The value of one place. The callers of this function and of those below have the values from `runs::read_values`.
+// The value of one place. The callers have the values from `runs::read_values`.
 pub fn place_value(
     s: &[u8],
     c: Coding,
@@ -69,49 +61,4 @@ pub fn place_value(
     }
     let inactives = v.inactives;
     inactive_value(s, n, inactives, p)
-}
-
-// The value of place p, where k is the number of the next stored value, and the next such number. With the numbers handed on, a run over the places
-// counts no mask.
-fn place_numbered(
-    s: &[u8],
-    c: Coding,
-    n: usize,
-    child: usize,
-    value: usize,
-    v: Values,
-    p: Index,
-    k: usize,
-) -> Placed
-    requires { ⌜ Held (now s) c n child value v × (p .0 < 8 * n) × (k ≡ numberOf (now s) (v .stored) child value (p .0)) ⌝ }
-    ensures { λ r. ⌜ (r .value ≡ placeValue (now (s .entry)) c child value v (p .0)) × (r .next ≡ numberOf (now (s .entry)) (v .stored) child value (p .0 + 1)) ⌝ }
-{
-    let stored = v.stored;
-    if runs::is_stored(s, stored, n, child, value, p) {
-        let x = stored_value(s, c, v.start, k);
-        return Placed {
-            value: x,
-            next: k + 1,
-        };
-    }
-    let inactives = v.inactives;
-    Placed {
-        value: inactive_value(s, n, inactives, p),
-        next: k,
-    }
-}
-
-// A leaf's 512 values, place 0 first, into 512 slots.
-pub fn fill_leaf(s: &[u8], c: Coding, value: usize, v: Values, slots: &mut [u32])
-    requires { ⌜ Held (now s) c 64 value value v × (length (now slots) ≡ 512) ⌝ }
-    ensures { λ r. ⌜ now (slots .exit) ≡ leafValues (now (s .entry)) c value v ⌝ }
-{
-    let mut k: usize = 0;
-    let mut p: u32 = 0;
-    while p < 512 {
-        let placed = place_numbered(s, c, 64, value, value, v, Index(p), k);
-        slots[p as usize] = placed.value;
-        k = placed.next;
-        p = p + 1;
-    }
 }

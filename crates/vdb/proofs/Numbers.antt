@@ -216,21 +216,21 @@ form-n : (s : List ℕ) (v at : ℕ) → Numbered (formField s v at)
 unfolding formField
 form-n s v at = when-n _ _ _ tt (then-n _ _ (field-n s 1 _ at) λ b p. selected-n b p)
 
-inactive-n : (s : List ℕ) (b : Bool) (at : ℕ) → Numbered (inactiveField s b at)
+inactive-n : (s : List ℕ) (b : Bool) (other at : ℕ) → Numbered (inactiveField s b other at)
 unfolding inactiveField
-inactive-n s b at = when-n _ _ _ (field-n s 4 _ at) tt
+inactive-n s b other at = when-n _ _ _ (field-n s 4 _ at) tt
 
 selection-n : (s : List ℕ) (b : Bool) (n at : ℕ) → Numbered (selectionField s b n at)
 unfolding selectionField
 selection-n s b n at = when-n _ _ _ (then-n _ _ (field-n s n _ at) λ w p. tt) tt
 
-inactives-n : (s : List ℕ) (form : Form) (n at : ℕ) → Numbered (inactivesField s form n at)
+inactives-n : (s : List ℕ) (background : ℕ) (form : Form) (n at : ℕ) → Numbered (inactivesField s background form n at)
 unfolding inactivesField
-inactives-n s form n at = then-n _ _ (inactive-n s _ at) λ a p. then-n _ _ (inactive-n s _ p) λ b q. then-n _ _ (selection-n s _ n q) λ c r. tt
+inactives-n s background form n at = then-n _ _ (inactive-n s _ _ at) λ a p. then-n _ _ (inactive-n s _ _ p) λ b q. then-n _ _ (selection-n s _ n q) λ c r. tt
 
 head-n : (s : List ℕ) (c : Coding) (old : Stored) (n at : ℕ) → Numbered (headField s c old n at)
 unfolding headField
-head-n s c old n at = then-n _ _ (form-n s _ at) λ form p. then-n _ _ (inactives-n s form n p) λ i q. tt
+head-n s c old n at = then-n _ _ (form-n s _ at) λ form p. then-n _ _ (inactives-n s _ form n p) λ i q. tt
 
 number-n : (s : List ℕ) (c : Coding) (count at : ℕ) → Numbered (numberField s c count at)
 unfolding numberField sizeChecked

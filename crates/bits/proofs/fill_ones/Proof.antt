@@ -8,11 +8,13 @@ use lib.Count.{trailingZeros}
 use lib.Pow.{shr-le}
 use Rattle.slots.specs.Slots.{slotsOf}
 use Rattle.slots.specs.Inner.{Room}
-use Rattle.bits.specs.Inner.{handWord, onesPast, numberIn, past}
+use Rattle.masks.specs.Inner.{onesPast}
+use Rattle.masks.proofs.Ones.{lowest-past, past-on}
+use Rattle.bits.specs.Inner.{handWord, numberIn, past}
 use Rattle.bits.specs.declared.Bits.{Bits}
 use Rattle.slots.proofs.Laws.{Same, same, in-room, put-same, put-room, room-less}
 use Rattle.bits.proofs.Laws.{ones-small, Going, goes, ends, hand-full, run-is}
-use Rattle.bits.proofs.Ones.{lowest-past, past-on, begins, number-le, leaf-multiple, leaf-places, done, one-inside, one-more}
+use Rattle.bits.proofs.Ones.{begins, number-le, leaf-multiple, leaf-places, done, one-inside, one-more}
 use Rattle.bits.proofs.fill_ones.Statement.{statement}
 use Rattle.bits.proofs.fill_ones.Tie as tie
 
@@ -56,7 +58,7 @@ module _ (c : tie.Else1 Inv-loop μ-loop) where
   reached : q ≡ p + trailingZeros 64 (b .ones / 2 ^ p)
   reached =
       let small = ones-small _ _ (start l .pre .1) in
-      ap (trailingZeros 64) (l .loop .inv .3) ∙ lowest-past (b .ones) p small some-set (lt-of-le-of-lt (shr-le (b .ones) p) small)
+      ap (trailingZeros 64) (l .loop .inv .3) ∙ lowest-past (b .ones) p small some-set
 
   inside : q < b .left
   inside = let s = start l in omega (arith, reached, one-inside _ _ _ b (s .pre .0) (s .pre .1) (s .pre .2) p k (l .loop .inv .2) (l .loop .inv .0) some-set)

@@ -1,106 +1,112 @@
--- The invariant: what is filled, with what is to come, is the whole run. The loop ends because behind each leaf fewer pieces are to come.
+-- The invariant: what is filled, with what is to come, is the whole run. The loop ends because behind each piece fewer are to come.
 use borrow.Author.Needs.{needs}
 use borrow.Rule.Slice.PartMut.{midOf, same-len-mid, mid-len}
 use mathlib.Core.Path.{_≡_, refl, sym, ap, _∙_}
-use mathlib.Core.List.{List, _++_}
+use mathlib.Core.List.{List, [], _++_}
 use Prim.Native.Nat.{ℕ, _+_, _-_, _/_, _%_, _≤_, _<_}
 use native.Mathlib.Omega.{arith}
-use lib.ListN.{length, take}
+use lib.ListN.{length, take, length-drop}
 use lib.Seq.{take-all}
 use Rattle.fields.proofs.Laws.{told}
-use Rattle.cursor.specs.Inner.{toCome, pieceOf}
-use Rattle.skip.specs.Inner.{saysSkip}
-use Rattle.skip.proofs.Laws.{recordsIn}
-use Rattle.skip.proofs.Few.{few-records}
+use Rattle.tree.specs.Active.{Piece}
+use Rattle.cursor.specs.Inner.{stop, toCome, pieceOf, saysPiece}
+use Rattle.cursor.proofs.Step.{follows}
+use Rattle.expand.proofs.Laws.{put-behind}
 use Rattle.leaves.specs.Inner.{startCursor, leavesFrom, valuesIn, valuesOf}
-use Rattle.leaves.proofs.Laws.{Filling, starts, one-more, full, filled, put-behind}
-use Rattle.leaves.proofs.Next.{most, NextLeaf, next-leaf, no-end, no-refusal}
+use Rattle.leaves.proofs.Laws.{Filling, starts, one-more, full, filled, no-slots}
+use Rattle.leaves.proofs.Next.{held-leaf, one-fewer, leaf-next, none-next, no-piece}
 use Rattle.leaves.proofs.fill_run.Statement.{statement}
 use Rattle.leaves.proofs.fill_run.Tie as tie
 
 abbrev Inv-loop : tie.InvT-loop
-Inv-loop s first slots₀ c cursor₀ pass₀ at₀ slots cursor pass at =
-    (length slots ≡ length slots₀) × (recordsIn s (toCome s c cursor .items) ≤ most) × (at ≤ length slots) × ((length slots - at) % 512 ≡ 0)
-    × Filling (valuesIn s c) (leavesFrom s c cursor) pass ((length slots - at) / 512) (take at slots) (valuesOf s c (leavesFrom s c cursor₀) pass₀ (length slots₀ / 512))
+Inv-loop s first slots₀ c cursor₀ at₀ slots cursor at =
+    (length slots ≡ length slots₀) × (at ≤ length slots) × ((length slots - at) % 512 ≡ 0)
+    × Filling (valuesIn s c) (leavesFrom s c cursor) 0 ((length slots - at) / 512) (take at slots) (valuesOf s c (leavesFrom s c cursor₀) 0 (length slots₀ / 512))
 
 abbrev μ-loop : tie.MeasureT-loop
-μ-loop s first slots₀ c cursor₀ pass₀ at₀ slots cursor pass at = length (toCome s c cursor .items)
+μ-loop s first slots₀ c cursor₀ at₀ slots cursor at = length (toCome s c cursor .items)
 
--- back from a call that passes pieces to the loop's start, and to the function's
-abbrev turn : tie.After-skip Inv-loop μ-loop → tie.At-loop Inv-loop μ-loop
+-- back from a call for the next piece to the loop's start, and to the function's
+abbrev turn : tie.After-next-piece Inv-loop μ-loop → tie.At-loop Inv-loop μ-loop
 turn c = c .before .before
 
 abbrev start : tie.At-loop Inv-loop μ-loop → tie.Start Inv-loop μ-loop
-start c = c .before .before .before .before .before
-
--- the cursor at the function's start is the one before all roots
-first-cursor : (c : tie.After-between-roots Inv-loop μ-loop) → c .between-roots .result ≡ startCursor (c .before .before .before .before .args .start)
-first-cursor c = c .between-roots .ensures
+start c = c .before .before .before .before .before .before
 
 loop-holds : tie.Need-loop-holds Inv-loop μ-loop
 loop-holds c =
-    let a = c .before .before .before .before in
-    let few : recordsIn (a .args .s .now) (toCome (a .args .s .now) (a .args .start .coding) (startCursor (a .args .start)) .items) ≤ most =
-    omega (arith, few-records (a .args .s .now) (a .args .start .coding) (a .args .start .«root_count») (a .args .start .«roots_pos») (a .args .start .«block_pos»), a .pre .0 .few) in
-    let whole : length (a .args .slots .now) - 0 ≡ length (a .args .slots .now) = omega arith in
-    (refl, rw (first-cursor c) few, omega arith, rw whole (a .pre .1), rw (whole, first-cursor c) (starts (a .pre .0 .there)))
+    let s = c .before .before .before .before .before in
+    let a = s .args in
+    let whole : length (a .slots .now) - 0 ≡ length (a .slots .now) = omega arith in
+    let many = ap length (c .behind-leaves .ensures) ∙ length-drop (a .first) (leavesFrom (a .s .now) (a .start .coding) (startCursor (a .start))) in
+    (refl, omega arith, rw whole (s .pre .1), rw whole (starts (omega (arith, many, s .pre .0 .there))))
 
 -- a leaf is left, so that neither the end nor a refusal comes
-some-left : (c : tie.After-skip Inv-loop μ-loop) → let l = turn c .loop in l .pass < length (leavesFrom (start (turn c) .args .s .now) (start (turn c) .args .start .coding) (l .cursor))
-some-left c = let i = turn c .loop .inv in one-more (i .4) (omega (arith, i .3, c .before .loop-test .taken))
-
-returns : tie.Need-returns Inv-loop μ-loop
-returns c =
-    let k = c .before .before in
-    absurd (no-end _ _ (start (turn k) .pre .0 .width) _ (turn k .loop .inv .1) _ (some-left k) (told saysSkip (c .enum-told .given .1) (k .skip .ensures)))
+some-left : (c : tie.After-next-piece Inv-loop μ-loop) → let l = turn c in 0 < length (leavesFrom (start l .args .s .now) (start l .args .start .coding) (l .loop .cursor))
+some-left c = let i = turn c .loop .inv in one-more (i .3) (omega (arith, i .2, c .before .loop-test .taken))
 
 returns-2 : tie.Need-returns-2 Inv-loop μ-loop
 returns-2 c =
     let k = c .before .before in
-    absurd (no-refusal _ _ (start (turn k) .pre .0 .width) _ (turn k .loop .inv .1) _ (some-left k) (told saysSkip (c .enum-told2 .given .1) (k .skip .ensures)))
+    absurd (omega (arith, some-left k, no-piece _ _ _ (told (saysPiece _ _) (c .enum-told .given .1) (k .next-piece .ensures)) refl))
 
--- the leaf that comes next, and its slots
-abbrev call : tie.After-q Inv-loop μ-loop → tie.After-skip Inv-loop μ-loop
+returns-3 : tie.Need-returns-3 Inv-loop μ-loop
+returns-3 c =
+    let k = c .before .before in
+    absurd (omega (arith, some-left k, no-piece _ _ _ (told (saysPiece _ _) (c .enum-told2 .given .1) (k .next-piece .ensures)) refl))
+
+-- the piece that comes next
+abbrev call : tie.After-q Inv-loop μ-loop → tie.After-next-piece Inv-loop μ-loop
 call c = c .before .before
 
-leaf : (c : tie.After-q Inv-loop μ-loop) → let l = turn (call c) in
-    NextLeaf (start l .args .s .now) (start l .args .start .coding) (l .loop .pass) (l .loop .cursor) (record { piece = pieceOf (c .q .given .0 .0); behind = c .q .given .0 .1 .0 })
-leaf c = next-leaf _ _ (start (turn (call c)) .pre .0 .width) _ (turn (call c) .loop .inv .1) _ (told saysSkip (c .q .given .1) (call c .skip .ensures))
+next : (c : tie.After-q Inv-loop μ-loop) → let l = turn (call c) in let s = start l .args .s .now in let k = start l .args .start .coding in
+    stop (pieceOf (c .q .given .0 .0)) (c .q .given .0 .1 .0) (toCome s k (c .q .given .0 .1 .0)) ≡ toCome s k (l .loop .cursor)
+next c = told (saysPiece _ _) (c .q .given .1) (call c .next-piece .ensures)
 
+-- another piece than a leaf
+loop-again : tie.Need-loop-again Inv-loop μ-loop
+loop-again c =
+    let q = c .before .before .before in
+    let i = turn (call q) .loop .inv in
+    (i .0, i .1, i .2, rw (none-next _ _ _ (next q) (c .if2 .taken)) at (i .3))
+
+-- a leaf, and its slots
 fits : (c : tie.After-q Inv-loop μ-loop) → turn (call c) .loop .at + 512 ≤ length (turn (call c) .loop .slots)
-fits c = let i = turn (call c) .loop .inv in omega (arith, i .2, i .3, call c .before .loop-test .taken)
+fits c = let i = turn (call c) .loop .inv in omega (arith, i .1, i .2, call c .before .loop-test .taken)
 
 lent : (at : ℕ) (slots : List ℕ) → at + 512 ≤ length slots → length (midOf at (at + 512 - at) slots) ≡ 512
 lent at slots h = mid-len at (at + 512) slots h ∙ omega arith
 
 fill-leaf-requires : tie.Need-fill-leaf-requires Inv-loop μ-loop
 fill-leaf-requires c κs =
-    let q = c .before .before .before in
-    let l = turn (call q) .loop in
-    (leaf q .held, lent (l .at) (l .slots) (fits q))
+    let o = c .before .before in
+    let q = o .before .before .before in
+    let l = turn (call q) in
+    (held-leaf (follows _ _ (start l .pre .0 .width) _ (next q) .0) (o .if2 .left), lent (l .loop .at) (l .loop .slots) (fits q))
 
-loop-again : tie.Need-loop-again Inv-loop μ-loop
-loop-again c =
-    let q = c .before .before .before .before .before .before in
+loop-again-2 : tie.Need-loop-again-2 Inv-loop μ-loop
+loop-again-2 c =
+    let f = c .before .before in
+    let o = f .before .before .before in
+    let q = o .before .before .before in
     let l = turn (call q) .loop in
-    let f = c .before .before .fill-leaf in
-    let kept = f .kept .1 .1 .1 .1 .0 in
-    let same = same-len-mid (l .at) (l .at + 512 - l .at) (l .slots) (f .last .1 .1 .1 .1 .0) kept in
+    let kept = f .fill-leaf .kept .1 .1 .1 .1 .0 in
+    let same = same-len-mid (l .at) (l .at + 512 - l .at) (l .slots) (f .fill-leaf .last .1 .1 .1 .1 .0) kept in
     let many = kept ∙ lent (l .at) (l .slots) (fits q) in
-    let n = leaf q in
     let room = fits q in (
       same ∙ l .inv .0,
-      n .few,
       omega (arith, same, room),
-      omega (arith, same, room, l .inv .3),
-      filled (l .inv .4) (n .front) _ _ (n .split) (n .passed) _ (omega (arith, same, room, l .inv .3))
-          (put-behind (l .at) (l .slots) _ _ (l .inv .2) many ∙ ap (λ (v : List ℕ). take (l .at) (l .slots) ++ v) (f .ensures)),
+      omega (arith, same, room, l .inv .2),
+      filled (l .inv .3) [] _ _ (leaf-next _ _ _ (next q) (o .if2 .left)) refl _ (omega (arith, same, room, l .inv .2))
+          (put-behind (l .at) 512 (l .slots) _ _ (l .inv .1) many ∙ ap (λ (v : List ℕ). take (l .at) (l .slots) ++ v) (f .fill-leaf .ensures)),
     )
 
-returns-3 : tie.Need-returns-3 Inv-loop μ-loop
-returns-3 c =
+returns-4 : tie.Need-returns-4 Inv-loop μ-loop
+returns-4 c =
     let l = c .before .loop in
-    rw (← first-cursor (c .before .before)) (sym (take-all (l .at) (l .slots) (c .loop-test .left)) ∙ full (l .inv .4) (omega (arith, c .loop-test .left)))
+    let a = start (c .before) .args in
+    sym (take-all (l .at) (l .slots) (c .loop-test .left)) ∙ full (l .inv .3) (omega (arith, c .loop-test .left))
+    ∙ ap (λ (leaves : List Piece). valuesOf (a .s .now) (a .start .coding) leaves 0 (length (a .slots .now) / 512)) (c .before .before .behind-leaves .ensures)
 
 pub fill-run-spec : {M : Type 1} → statement M
 fill-run-spec =
@@ -108,23 +114,27 @@ fill-run-spec =
     (tie.spec
     Inv-loop
     μ-loop
-    (λ c κs. search needs)
+    (λ c. let a = c .before .before .before .args in no-slots _ (leavesFrom (a .s .now) (a .start .coding) (startCursor (a .start))) (a .first) _ (c .if1 .taken))
+    (λ c κs. let s = c .before .before .before .before in
+    record { width = s .pre .0 .width; few = s .pre .0 .few; there = omega (arith, s .pre .0 .there, s .pre .1, c .before .if1 .left) })
     loop-holds
     (λ c κs. start (c .before) .pre .0 .width)
     (λ c. search needs)
-    (λ c. c .before .before .before .before .loop .inv .0)
-    returns
-    (λ c. search needs)
-    (λ c. c .before .before .before .before .loop .inv .0)
+    (λ c. turn (c .before .before) .loop .inv .0)
     returns-2
     (λ c. search needs)
-    (λ c. let l = turn (call (c .before)) in omega (arith, fits (c .before), l .loop .inv .0, start l .good))
-    (λ c. let l = turn (call (c .before .before)) in omega (arith, fits (c .before .before), l .loop .inv .0, start l .good))
-    (λ c. omega arith)
-    (λ c. omega arith)
-    (λ c. fits (c .before .before))
-    fill-leaf-requires
-    (λ c. leaf (c .before .before .before .before .before .before) .fewer)
+    (λ c. turn (c .before .before) .loop .inv .0)
+    returns-3
+    (λ c. search needs)
+    (λ c. one-fewer _ _ _ (next (c .before .before .before)))
     loop-again
+    (λ c. let q = c .before .before .before in let l = turn (call q) in omega (arith, fits q, l .loop .inv .0, start l .good))
+    (λ c. let q = c .before .before .before .before in let l = turn (call q) in omega (arith, fits q, l .loop .inv .0, start l .good))
+    (λ c. omega arith)
+    (λ c. omega arith)
+    (λ c. fits (c .before .before .before .before))
+    fill-leaf-requires
+    (λ c. one-fewer _ _ _ (next (c .before .before .before .before .before .before .before .before)))
+    loop-again-2
     (λ c. c .before .loop .inv .0)
-    returns-3)
+    returns-4)

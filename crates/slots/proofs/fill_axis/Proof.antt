@@ -8,7 +8,7 @@ use mir.Facts.{toZ-ofZ}
 use Rattle.coordinates.specs.declared.GlobalCoord.{GlobalCoord}
 use Rattle.slots.specs.Inner.{cornerAt, axisOf}
 use Rattle.slots.proofs.Levels.{masked}
-use Rattle.slots.proofs.Runs.{Filling, filling-none, filling-next, filling-all}
+use Rattle.batch.proofs.Laws.{Filling, filling-none, filling-next, filling-all}
 use Rattle.slots.proofs.fill_axis.Statement.{statement}
 use Rattle.slots.proofs.fill_axis.Tie as tie
 

@@ -4,12 +4,12 @@ use mathlib.Core.Path.{sym, _∙_}
 use native.Mathlib.Omega.{arith}
 use Rattle.slots.specs.Slots.{slotsOf}
 use Rattle.slots.proofs.Levels.{masked}
-use Rattle.slots.proofs.Runs.{laid-ranged}
+use Rattle.slots.proofs.Runs.{laid-ranged, room-in-file}
 use Rattle.slots.proofs.fill_full.Statement.{statement}
 use Rattle.slots.proofs.fill_full.Tie as tie
 
 -- back from the levels to z, y and x, and to the function's start
-abbrev z : tie.After-fill-level → tie.After-fill-axis3
+abbrev z : tie.After-fill-same → tie.After-fill-axis3
 z c = c .before .before .before
 
 abbrev y : tie.After-fill-axis3 → tie.After-fill-axis2
@@ -25,14 +25,14 @@ fill-values-requires : tie.Need-fill-values-requires
 fill-values-requires c κs =
     let s = start (x (y (z (c .before .before .before)))) in
     let m = masked (s .args .w .level) in
-    (s .pre .0, s .pre .2, omega (arith, s .pre .1, m .small, m .bits), s .pre .3 .in-value)
+    (room-in-file _ _ _ _ (s .pre .0) (omega (arith, s .pre .1, m .small, m .bits)) (s .pre .2), s .pre .3 .in-value)
 
 -- slice by slice
 returns : tie.Need-returns
 returns c =
     let v = c .before .before in
     let l = v .before .before .before .before in (
-    λ q. slotsOf (x (y (z l)) .fill-axis .ensures q) (y (z l) .fill-axis2 .ensures q) (z l .fill-axis3 .ensures q) (l .fill-level .ensures q) (v .fill-values .ensures q)
+    λ q. slotsOf (x (y (z l)) .fill-axis .ensures q) (y (z l) .fill-axis2 .ensures q) (z l .fill-axis3 .ensures q) (l .fill-same .ensures q) (v .fill-values .ensures q)
     ) ∙ sym (laid-ranged _ _ _ _ _ 64)
 
 pub fill-full-spec : {M : Type 1} → statement M
