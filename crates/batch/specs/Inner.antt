@@ -24,8 +24,12 @@ pub record InFile (s : List ℕ) (c : Coding) (start number n : ℕ) : Type 0 wh
   pub few : number + n ≤ 32768
   pub within : start + (number + n) * c .width ≤ length s
 
--- the slots of a word's ones are set, in their order, to the stored values of a run from a number on; its zeros stay
-pub record OnesSet (s : List ℕ) (c : Coding) (start number ones : ℕ) (before after : List ℕ) : Type 0 where
+-- the stored value of place i of a word, the word's ones having those of a run from a number on, in their order
+abbrev pub inOrder : List ℕ → Coding → ℕ → ℕ → ℕ → ℕ → ℕ
+inOrder s c start number ones i = numbered s c start number (countBelow (digit ones) i)
+
+-- of 64 slots those of a word's ones are set, that of place i to f i; the others stay
+pub record OnesSet (f : ℕ → ℕ) (ones : ℕ) (before after : List ℕ) : Type 0 where
   pub many : length after ≡ 64
-  pub set : (i : ℕ) → i < 64 → digit ones i ≡ true → getD after i 0 ≡ numbered s c start number (countBelow (digit ones) i)
+  pub set : (i : ℕ) → i < 64 → digit ones i ≡ true → getD after i 0 ≡ f i
   pub kept : (i : ℕ) → i < 64 → digit ones i ≡ false → getD after i 0 ≡ getD before i 0

@@ -1,14 +1,13 @@
 // Document 01, sections 5 and 7: 64 slots at once, those of the places of a mask word.
 ghost use mathlib.Core.Path.{_≡_};
 ghost use mathlib.Core.Bool.{true};
-ghost use Prim.Native.Nat.{_+_, _*_, _^_, _≤_, _<_};
+ghost use Prim.Native.Nat.{_+_, _*_, _≤_};
 ghost use lib.ListN.{length};
 ghost use Rattle.fields.specs.Le.{u16At};
-ghost use Rattle.fields.specs.Parse.{when};
 ghost use Rattle.masks.specs.Masks.{digit, countBelow};
 ghost use Rattle.half.specs.Half.{widened};
 ghost use Rattle.half.specs.Inner.{areNormal};
-ghost use Rattle.batch.specs.Inner.{ranged, numbered, InFile, OnesSet};
+ghost use Rattle.batch.specs.Inner.{ranged, numbered, inOrder, InFile, OnesSet};
 use forms::Coding;
 
 // The same in 64 slots. This loop and the next two have no way out, so that the compiler vectorises them.
@@ -65,43 +64,35 @@ pub fn fill_values(s: &[u8], c: Coding, start: usize, number: usize, slot: usize
     fill_stored(s, c, start, number, slot, slots);
 }
 
-// The second value where the lowest bit is set, else the first.
-fn either(w: u64, first: u32, second: u32) -> u32
-    ensures { λ r. ⌜ r ≡ when (digit w 0) second first ⌝ }
-{
-    if w % 2 == 1 {
-        return second;
-    }
-    first
-}
-
-// The second value into the slots whose bits are set, the first into the others.
-pub fn fill_either(w: u64, first: u32, second: u32, slots: &mut [u32])
+// The same into the slot of each one of a word.
+pub fn put_same(x: u32, ones: u64, slots: &mut [u32])
     requires { ⌜ length (now slots) ≡ 64 ⌝ }
-    ensures { λ u. ⌜ now (slots .exit) ≡ ranged (now (slots .entry)) 0 64 (λ i. when (digit w i) second first) ⌝ }
+    ensures { λ u. ⌜ OnesSet (λ i. x) ones (now (slots .entry)) (now (slots .exit)) ⌝ }
 {
-    let mut bits = w;
-    let mut i: usize = 0;
-    while i < 64 {
-        slots[i] = either(bits, first, second);
-        bits = bits / 2;
-        i = i + 1;
+    let mut left = ones;
+    while left != 0 {
+        slots[u64::trailing_zeros(left) as usize] = x;
+        left = masks::past_lowest(left);
     }
 }
 
 // The stored values of a run from a number on, each into the slot of a one; then the number of the next stored value.
-pub fn put_ones(s: &[u8], c: Coding, start: usize, number: usize, ones: u64, slots: &mut [u32]) -> usize
-    requires { ⌜ (ones < 2 ^ 64) × InFile (now s) c start number (countBelow (digit ones) 64) × (length (now slots) ≡ 64) ⌝ }
-    ensures { λ r. ⌜ OnesSet (now (s .entry)) c start number ones (now (slots .entry)) (now (slots .exit)) × (r ≡ number + countBelow (digit ones) 64) ⌝ }
+pub fn put_stored(
+    s: &[u8],
+    c: Coding,
+    start: usize,
+    number: usize,
+    ones: u64,
+    slots: &mut [u32],
+) -> usize
+    requires { ⌜ InFile (now s) c start number (countBelow (digit ones) 64) × (length (now slots) ≡ 64) ⌝ }
+    ensures { λ r. ⌜ OnesSet (inOrder (now (s .entry)) c start number ones) ones (now (slots .entry)) (now (slots .exit)) × (r ≡ number + countBelow (digit ones) 64) ⌝ }
 {
     let mut left = ones;
-    let mut p: u32 = 0;
     let mut k = number;
     while left != 0 {
-        let q = u64::trailing_zeros(left);
-        slots[q as usize] = values::stored_value(s, c, start, k);
+        slots[u64::trailing_zeros(left) as usize] = values::stored_value(s, c, start, k);
         left = masks::past_lowest(left);
-        p = q + 1;
         k = k + 1;
     }
     k

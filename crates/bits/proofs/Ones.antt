@@ -1,20 +1,17 @@
 -- The ones of a leaf's word, taken one by one from the lowest on, each where it was.
 use mathlib.Core.Path.{_≡_, refl, sym, ap, subst, _∙_}
 use mathlib.Core.List.{List}
-use mathlib.Core.Bool.{Bool, true, false, true≢false}
-use Prim.Native.Nat.{ℕ, zero, suc, _+_, _-_, _*_, _/_, _%_, _^_, _≤_, _<_}
-use native.Mathlib.Nat.{lt-of-not-le, pow-suc, mul-assoc, zero-min, zero-div}
+use mathlib.Core.Bool.{Bool, true, false}
+use Prim.Native.Nat.{ℕ, _+_, _-_, _*_, _/_, _^_, _≤_, _<_}
+use native.Mathlib.Nat.{lt-of-not-le}
 use native.Mathlib.Omega.{arith}
-use lib.Count.{trailingZeros, under}
-use lib.Dec.{eqb, ltb}
-use borrow.Author.Tests.{ltb-true, ltb-false, eqb-false, eq-eqb, ne-eqb}
-use native.Mathlib.Numerals.{one-add}
-use lib.Bits.{bitAnd, and-step, and-self, shifted-half, shifted-even}
-use lib.Pow.{shl-shr, shr-shr}
+use lib.Count.{trailingZeros}
+use lib.Dec.{eqb}
+use borrow.Author.Tests.{eqb-false, eq-eqb, ne-eqb}
+use lib.Pow.{shr-shr}
 use Rattle.fields.specs.Parse.{when}
 use Rattle.masks.specs.Masks.{digit, countBelow}
 use Rattle.masks.specs.Inner.{onesPast}
-use Rattle.masks.proofs.Digits.{digit-shift, digit-past, trailing-zero, trailing-one, trailing-lt}
 use Rattle.masks.proofs.Ones.{none-left}
 use Rattle.forms.specs.declared.Coding.{Coding}
 use Rattle.half.specs.Half.{storedValue}

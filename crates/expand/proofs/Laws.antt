@@ -24,7 +24,7 @@ use Rattle.runs.specs.Inner.{Held}
 use Rattle.runs.specs.declared.Values.{Values}
 use Rattle.values.specs.Values.{isSelected, inactiveValue, placeValue, valuesFrom}
 use Rattle.values.proofs.Laws.{stored-place, other-place}
-use Rattle.batch.specs.Inner.{ranged, numbered, InFile, OnesSet}
+use Rattle.batch.specs.Inner.{ranged, numbered, inOrder, InFile, OnesSet}
 use Rattle.batch.proofs.Laws.{length-ranged, ranged-at}
 use Rattle.expand.specs.Inner.{ZerosHeld}
 
@@ -62,26 +62,29 @@ module _ (s : List ℕ) (at p : ℕ) where
   unfolding isSelected
   no-word = record { below = omega arith; bits = λ q l. no-digit q }
 
--- What the places of a word hold that are not stored, by the bits of the selection mask: 64 slots that are filled are the word's.
-module _ {s : List ℕ} {v : Inactives} {p w ones : ℕ} (h : IsWord (isSelected s (v .selection)) p w) (before : List ℕ) {slots : List ℕ} (many : length before ≡ 64) where
-  filled : (f : ℕ → ℕ) → slots ≡ ranged before 0 64 f → ((i : ℕ) → i < 64 → digit ones i ≡ false → f i ≡ when (digit w i) (v .second) (v .first)) → ZerosHeld s v p ones slots
-  unfolding inactiveValue
-  filled f e g = record {
-    many = ap length e ∙ length-ranged before 0 64 f ∙ many;
-    zeros = λ i l o.
-        ap (λ (l : List ℕ). getD l i 0) e ∙ ranged-at before 0 64 f i (omega (arith, many)) l ∙ g i l o ∙ ap (λ (b : Bool). when b (v .second) (v .first)) (h .bits i l);
+-- What the places of a word hold that are not stored, by the bits of the selection mask: the selected ones are all of them, or are set after the others.
+filled-at : (before : List ℕ) {slots : List ℕ} (x : ℕ) → length before ≡ 64 → slots ≡ ranged before 0 64 (λ i. x) → (i : ℕ) → i < 64 → getD slots i 0 ≡ x
+filled-at before x many e i l = ap (λ (l : List ℕ). getD l i 0) e ∙ ranged-at before 0 64 (λ i. x) i (omega (arith, many)) l
+
+bit-says : (s : List ℕ) (v : Inactives) {p w : ℕ} → IsWord (isSelected s (v .selection)) p w → (i : ℕ) → i < 64 → {b : Bool} → digit w i ≡ b → when b (v .second) (v .first) ≡ inactiveValue s v (p + i)
+unfolding inactiveValue
+bit-says s v h i l e = ap (λ (b : Bool). when b (v .second) (v .first)) (sym e ∙ h .bits i l)
+
+module _ {s : List ℕ} {v : Inactives} {p w ones : ℕ} (h : IsWord (isSelected s (v .selection)) p w) (before : List ℕ) (many : length before ≡ 64) where
+  pub others-selected : {slots : List ℕ} → ones < 2 ^ 64 → w ≡ 18446744073709551615 - ones → slots ≡ ranged before 0 64 (λ i. v .second) → ZerosHeld s v p ones slots
+  unfolding when
+  others-selected small z e = record {
+    many = ap length e ∙ length-ranged before 0 64 (λ i. v .second) ∙ many;
+    zeros = λ i l o. filled-at before (v .second) many e i l ∙ bit-says s v h i l (complement 64 i w ones (omega arith) l ∙ ap not o);
   }
 
-  pub none-selected : w ≡ 0 → slots ≡ ranged before 0 64 (λ i. v .first) → ZerosHeld s v p ones slots
+  pub selected-set : (slots : List ℕ) {after : List ℕ} → slots ≡ ranged before 0 64 (λ i. v .first) → OnesSet (λ i. v .second) w slots after → ZerosHeld s v p ones after
   unfolding when
-  none-selected z e = filled _ e (λ i l o. rw (z, no-digit i))
-
-  pub others-selected : ones < 2 ^ 64 → w ≡ 18446744073709551615 - ones → slots ≡ ranged before 0 64 (λ i. v .second) → ZerosHeld s v p ones slots
-  unfolding when
-  others-selected small z e = filled _ e (λ i l o. rw (complement 64 i w ones (omega arith) l, o))
-
-  pub each-selected : slots ≡ ranged before 0 64 (λ i. when (digit w i) (v .second) (v .first)) → ZerosHeld s v p ones slots
-  each-selected e = filled _ e (λ i l o. refl)
+  selected-set slots {after} e o = record { many = o .many; zeros = λ i l z. go i l (digit w i) refl }
+    where
+      go : (i : ℕ) → i < 64 → (b : Bool) → digit w i ≡ b → getD after i 0 ≡ inactiveValue s v (p + i)
+      go i l true d = o .set i l d ∙ bit-says s v h i l d
+      go i l false d = o .kept i l d ∙ filled-at before (v .first) many e i l ∙ bit-says s v h i l d
 
 -- Slots that hold the values of as many places one after the other hold them all.
 module _ (s : List ℕ) (c : Coding) (child value : ℕ) (v : Values) where
@@ -116,7 +119,7 @@ module _ {s : List ℕ} {c : Coding} {value : ℕ} {v : Values} {p k ones : ℕ}
       }
 
   -- stored and inactive values together
-  pub both : {before after : List ℕ} → ZerosHeld s (v .inactives) p ones before → OnesSet s c (v .start) k ones before after → after ≡ valuesFrom s c value value v p 64
+  pub both : {before after : List ℕ} → ZerosHeld s (v .inactives) p ones before → OnesSet (inOrder s c (v .start) k ones) ones before after → after ≡ valuesFrom s c value value v p 64
   both {before} {after} z o = values-are s c value value v after p 64 (o .many) (λ i l. go i l (digit ones i) refl)
     where
       go : (i : ℕ) → i < 64 → (b : Bool) → digit ones i ≡ b → getD after i 0 ≡ placeValue s c value value v (p + i)

@@ -39,23 +39,20 @@ fn selection_word(s: &[u8], selection: Selection, p: usize) -> u64
     }
 }
 
-// The inactive values of the places from p on that are not stored; `ones` has the bits of those that are. Mostly all such places of a word hold the same
-// value, the first or the second.
+// The inactive values of the places from p on that are not stored; `ones` has the bits of those that are. Mostly none of them is selected, or all are and
+// no other.
 fn fill_inactive(s: &[u8], v: Inactives, p: usize, ones: u64, slots: &mut [u32])
     requires { ⌜ selectionHeld (now s) 64 (v .selection) × (p % 64 ≡ 0) × (p < 512) × (length (now slots) ≡ 64) ⌝ }
     ensures { λ u. ⌜ ZerosHeld (now (s .entry)) v p ones (now (slots .exit)) ⌝ }
 {
     let selection = v.selection;
     let w = selection_word(s, selection, p);
-    if w == 0 {
-        batch::fill_same(v.first, 0, slots);
-        return;
-    }
     if w == 0xffff_ffff_ffff_ffff - ones {
         batch::fill_same(v.second, 0, slots);
         return;
     }
-    batch::fill_either(w, v.first, v.second, slots);
+    batch::fill_same(v.first, 0, slots);
+    batch::put_same(v.second, w, slots);
 }
 
 // The values of the 64 places from p on, and the number of the next stored value behind them; k is the one before them.
@@ -79,7 +76,7 @@ fn fill_word(
     }
     let inactives = v.inactives;
     fill_inactive(s, inactives, p, ones, slots);
-    batch::put_ones(s, c, v.start, k, ones, slots)
+    batch::put_stored(s, c, v.start, k, ones, slots)
 }
 
 // A leaf's 512 values, place 0 first, into 512 slots. The callers have its values from `runs::read_values`.

@@ -96,7 +96,7 @@ pub fn high_bits(w: u64, r: usize) -> u64
 // The ones of a word above its lowest one.
 pub fn past_lowest(w: u64) -> u64
     requires { ⌜ (w < 2 ^ 64) × (w ≡ 0 → ⊥) ⌝ }
-    ensures { λ r. ⌜ r ≡ onesPast w (trailingZeros 64 w + 1) ⌝ }
+    ensures { λ r. ⌜ (r ≡ onesPast w (trailingZeros 64 w + 1)) × (r < w) ⌝ }
 {
     w & (w - 1)
 }

@@ -16,7 +16,7 @@ start c = c .before .before .before .before
 abbrev halves : tie.After-fill-normal-arg → tie.Then1
 halves c = c .before .before .before
 
-there : (c : tie.Then1) → c .before .before .before .before .args .start + c .before .before .before .before .args .number * 2 + 128 ≤ length (c .before .before .before .before .args .s .now)
+there : (c : tie.Then1) → let a = start c .args in a .start + a .number * 2 + 128 ≤ length (a .s .now)
 there c = halves-there _ _ _ _ (c .if1 .taken) (start c .pre .0)
 
 pub fill-values-spec : {M : Type 1} → statement M

@@ -2,10 +2,9 @@
 use borrow.Author.Needs.{needs}
 use mathlib.Core.Path.{_≡_, refl, sym, ap, _∙_}
 use Prim.Native.Nat.{ℕ, _+_, _-_, _*_, _/_, _^_, _<_, _≤_}
-use native.Mathlib.Nat.{zero-mul, lt-of-le-of-lt, div-mul-le-self}
+use native.Mathlib.Nat.{zero-mul, div-mul-le-self}
 use native.Mathlib.Omega.{arith}
 use lib.Count.{trailingZeros}
-use lib.Pow.{shr-le}
 use Rattle.slots.specs.Slots.{slotsOf}
 use Rattle.slots.specs.Inner.{Room}
 use Rattle.masks.specs.Inner.{onesPast}
@@ -107,7 +106,7 @@ loop-again c =
       omega (arith, inside t),
       omega (arith, i .inv .1),
       omega (arith, on t, i .inv .2, i .inv .1),
-      c .past-lowest .ensures ∙ ap (λ (x : ℕ). onesPast x (q t + 1)) (i .inv .3) ∙ past-on (b t .ones) (p t) (q t + 1) (omega (arith, on t)),
+      c .past-lowest .ensures .0 ∙ ap (λ (x : ℕ). onesPast x (q t + 1)) (i .inv .3) ∙ past-on (b t .ones) (p t) (q t + 1) (omega (arith, on t)),
       put-room _ _ _ _ w (i .inv .4),
       put-same _ _ _ _ w (i .inv .5),
       goes (i .inv .6) (one-more _ _ _ (b t) (s .pre .0) (s .pre .1) (s .pre .2) (p t) (k t) (i .inv .2) (i .inv .0) (some-set t) _ (i .i) (q t) _

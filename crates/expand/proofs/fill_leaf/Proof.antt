@@ -1,5 +1,4 @@
 -- The invariant: the words passed are filled, what is left from here fills the rest, and k is the number of the next stored value.
-use borrow.Author.Needs.{needs}
 use borrow.Rule.Slice.PartMut.{midOf, same-len-mid, mid-len}
 use mathlib.Core.List.{List, _++_}
 use mathlib.Core.Path.{_≡_, refl, sym, ap, _∙_}

@@ -14,7 +14,7 @@ start c = c .before .before .before
 abbrev full : tie.After-fill-values-arg → tie.Then1
 full c = c .before
 
-abbrev mixed : tie.After-put-ones-arg → tie.After-fill-inactive
+abbrev mixed : tie.After-put-stored-arg → tie.After-fill-inactive
 mixed c = c .before .before .before
 
 abbrev known : tie.After-fill-inactive → tie.After-stored-word
@@ -44,11 +44,11 @@ fill-word-spec =
     (λ c κs.
     let m = mixed c in
     let w = known m in
-    (w .stored-word .ensures .below, in-file (start w .pre .0) (inside w) (start w .pre .3) (w .stored-word .ensures), m .fill-inactive .ensures .many))
+    (in-file (start w .pre .0) (inside w) (start w .pre .3) (w .stored-word .ensures), m .fill-inactive .ensures .many))
     (λ c. search needs)
     (λ c.
     let f = c .before .before in
     let m = mixed (f .before) in
     let w = known m in
     let p = start w .pre in
-    (both (p .0) (inside w) (p .3) (w .stored-word .ensures) (m .fill-inactive .ensures) (f .put-ones .ensures .0), number-behind (p .0) (inside w) (p .3) (w .stored-word .ensures) (f .put-ones .ensures .1))))
+    (both (p .0) (inside w) (p .3) (w .stored-word .ensures) (m .fill-inactive .ensures) (f .put-stored .ensures .0), number-behind (p .0) (inside w) (p .3) (w .stored-word .ensures) (f .put-stored .ensures .1))))
