@@ -54,7 +54,7 @@ fill-leaf-spec =
     (λ c. omega arith)
     (λ c. fits c)
     (λ c κs. let t = c .before in let l = t .before .loop in
-    (t .before .before .before .before .pre .0, l .inv .1, t .loop-test .taken, l .inv .3, lent (l .p) (l .slots) (fits t)))
+    (t .before .before .before .before .pre .0, l .inv .1, omega (arith, t .loop-test .taken), l .inv .3, lent (l .p) (l .slots) (fits t)))
     (λ c. let t = c .before .before .before .before in omega (arith, t .loop-test .taken))
     loop-again
     (λ c. c .before .loop .inv .0 ∙ sym (c .before .before .before .before .pre .1))
