@@ -10,7 +10,7 @@ ghost use Rattle.half.specs.Inner.{areNormal};
 ghost use Rattle.batch.specs.Inner.{ranged, numbered, inOrder, InFile, OnesSet};
 use forms::Coding;
 
-// The same in 64 slots. This loop and the next two have no way out, so that the compiler vectorises them.
+// One value into 64 slots. This loop and the next two have no way out, so that the compiler vectorises them.
 pub fn fill_same(x: u32, slot: usize, slots: &mut [u32])
     requires { ⌜ slot + 64 ≤ length (now slots) ⌝ }
     ensures { λ u. ⌜ now (slots .exit) ≡ ranged (now (slots .entry)) slot 64 (λ k. x) ⌝ }
@@ -64,7 +64,7 @@ pub fn fill_values(s: &[u8], c: Coding, start: usize, number: usize, slot: usize
     fill_stored(s, c, start, number, slot, slots);
 }
 
-// The same into the slot of each one of a word.
+// One value into the slot of each one of a word.
 pub fn put_same(x: u32, ones: u64, slots: &mut [u32])
     requires { ⌜ length (now slots) ≡ 64 ⌝ }
     ensures { λ u. ⌜ OnesSet (λ i. x) ones (now (slots .entry)) (now (slots .exit)) ⌝ }

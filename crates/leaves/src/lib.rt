@@ -37,7 +37,8 @@ fn behind_leaves(s: &[u8], start: Start, first: u64) -> Cursor
     }
 }
 
-// Fills the slots with the values of the leaves from a number on. They are taken piece by piece: a pass for each leaf would cost as much as its values.
+// Fills the slots with the values of the leaves from a number on. These are taken from piece to piece: a pass over pieces for each leaf would copy the
+// cursor several times.
 fn fill_run(s: &[u8], start: Start, first: u64, slots: &mut [u32])
     requires { ⌜ HasLeaves (now s) start first (length (now slots) / 512) × (length (now slots) % 512 ≡ 0) ⌝ }
     ensures { λ _. ⌜ now (slots .exit) ≡ valuesOf (now (s .entry)) (start .coding) (leavesFrom (now (s .entry)) (start .coding) (startCursor start)) first (length (now (slots .entry)) / 512) ⌝ }
