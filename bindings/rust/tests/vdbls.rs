@@ -591,5 +591,5 @@ fn voxels_are_those_that_openvdb_counted() {
             compared += 1;
         }
     }
-    assert_eq!(compared, 33);
+    assert_eq!(compared, 45);
 }
