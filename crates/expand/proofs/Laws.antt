@@ -7,6 +7,7 @@ use native.Mathlib.Nat.{zero-add, add-zero, add-suc, suc-add, mul-le-mul-right}
 use native.Mathlib.Omega.{arith}
 use lib.ListN.{length, take, getD, length-append}
 use lib.Seq.{take-at, take-all, length-take-le}
+use borrow.Rule.Slice.PartMut.{midOf, mid-len}
 use Rattle.fields.specs.Parse.{when}
 use Rattle.half.specs.Half.{storedValue}
 use Rattle.masks.specs.Masks.{digit, maskBit, countBelow}
@@ -167,7 +168,10 @@ module _ (s : List ℕ) (c : Coding) (child value : ℕ) (v : Values) where
         let k : 512 - p ≡ 0 = omega arith in
         sym (take-all p slots (omega arith)) ∙ sym (append-nil (take p slots)) ∙ rw k at h
 
--- values put behind the first slots
+-- n slots lent from one on, and values put behind the first slots
+pub lent : (at n : ℕ) (slots : List ℕ) → at + n ≤ length slots → length (midOf at (at + n - at) slots) ≡ n
+lent at n slots h = mid-len at (at + n) slots h ∙ omega arith
+
 pub put-behind : (at n : ℕ) (slots values rest : List ℕ) → at ≤ length slots → length values ≡ n → take (at + n) (take at slots ++ (values ++ rest)) ≡ take at slots ++ values
 put-behind at n slots values rest h m =
     let e : length (take at slots ++ values) ≡ at + n = simp (length-append, length-take-le at slots h) (omega arith) in

@@ -1,5 +1,5 @@
 -- The invariant: the words passed are filled, what is left from here fills the rest, and k is the number of the next stored value.
-use borrow.Rule.Slice.PartMut.{midOf, same-len-mid, mid-len}
+use borrow.Rule.Slice.PartMut.{same-len-mid}
 use mathlib.Core.List.{List, _++_}
 use mathlib.Core.Path.{_≡_, refl, sym, ap, _∙_}
 use Prim.Native.Nat.{ℕ, _+_, _-_, _%_, _≤_}
@@ -8,7 +8,7 @@ use lib.ListN.{length, take}
 use Rattle.masks.proofs.Laws.{ones-none}
 use Rattle.runs.specs.Runs.{numberOf}
 use Rattle.values.specs.Values.{valuesFrom, leafValues}
-use Rattle.expand.proofs.Laws.{word-more, word-last, put-behind}
+use Rattle.expand.proofs.Laws.{word-more, word-last, lent, put-behind}
 use Rattle.expand.proofs.fill_leaf.Statement.{statement}
 use Rattle.expand.proofs.fill_leaf.Tie as tie
 
@@ -18,9 +18,6 @@ Inv-loop s c value v slots₀ k₀ p₀ slots k p = (length slots ≡ 512) × (p
 
 abbrev μ-loop : tie.MeasureT-loop
 μ-loop s c value v slots₀ k₀ p₀ slots k p = 512 - p
-
-lent : (p : ℕ) (slots : List ℕ) → p + 64 ≤ length slots → length (midOf p (p + 64 - p) slots) ≡ 64
-lent p slots h = mid-len p (p + 64) slots h ∙ omega arith
 
 fits : (c : tie.In-loop Inv-loop μ-loop) → c .before .loop .p + 64 ≤ length (c .before .loop .slots)
 fits c = let i = c .before .loop .inv in omega (arith, i .0, i .1, i .2, c .loop-test .taken)
@@ -38,7 +35,7 @@ loop-again c =
       omega (arith, room, l .inv .0),
       f .fill-word .ensures .1,
       word-more _ _ _ _ _ (l .slots) (l .p) (l .inv .4) (omega (arith, room, l .inv .0))
-          (put-behind (l .p) 64 (l .slots) _ _ (omega (arith, room)) (kept ∙ lent (l .p) (l .slots) room) ∙ ap (λ (v : List ℕ). take (l .p) (l .slots) ++ v) (f .fill-word .ensures .0)),
+          (put-behind (l .p) 64 (l .slots) _ _ (omega (arith, room)) (kept ∙ lent (l .p) 64 (l .slots) room) ∙ ap (λ (v : List ℕ). take (l .p) (l .slots) ++ v) (f .fill-word .ensures .0)),
     )
 
 pub fill-leaf-spec : {M : Type 1} → statement M
@@ -54,7 +51,7 @@ fill-leaf-spec =
     (λ c. omega arith)
     (λ c. fits c)
     (λ c κs. let t = c .before in let l = t .before .loop in
-    (t .before .before .before .before .pre .0, l .inv .1, omega (arith, t .loop-test .taken), l .inv .3, lent (l .p) (l .slots) (fits t)))
+    (t .before .before .before .before .pre .0, l .inv .1, omega (arith, t .loop-test .taken), l .inv .3, lent (l .p) 64 (l .slots) (fits t)))
     (λ c. let t = c .before .before .before .before in omega (arith, t .loop-test .taken))
     loop-again
     (λ c. c .before .loop .inv .0 ∙ sym (c .before .before .before .before .pre .1))

@@ -1,6 +1,6 @@
 -- The invariant: what is filled, with what is to come, is the whole run. The loop ends because behind each piece fewer are to come.
 use borrow.Author.Needs.{needs}
-use borrow.Rule.Slice.PartMut.{midOf, same-len-mid, mid-len}
+use borrow.Rule.Slice.PartMut.{same-len-mid}
 use mathlib.Core.Path.{_≡_, refl, sym, ap, _∙_}
 use mathlib.Core.List.{List, [], _++_}
 use Prim.Native.Nat.{ℕ, _+_, _-_, _/_, _%_, _≤_, _<_}
@@ -11,7 +11,7 @@ use Rattle.fields.proofs.Laws.{told}
 use Rattle.tree.specs.Active.{Piece}
 use Rattle.cursor.specs.Inner.{stop, toCome, pieceOf, saysPiece}
 use Rattle.cursor.proofs.Step.{follows}
-use Rattle.expand.proofs.Laws.{put-behind}
+use Rattle.expand.proofs.Laws.{lent, put-behind}
 use Rattle.leaves.specs.Inner.{startCursor, leavesFrom, valuesIn, valuesOf}
 use Rattle.leaves.proofs.Laws.{Filling, starts, one-more, full, filled, no-slots}
 use Rattle.leaves.proofs.Next.{held-leaf, one-fewer, leaf-next, none-next, no-piece}
@@ -74,15 +74,12 @@ loop-again c =
 fits : (c : tie.After-q Inv-loop μ-loop) → turn (call c) .loop .at + 512 ≤ length (turn (call c) .loop .slots)
 fits c = let i = turn (call c) .loop .inv in omega (arith, i .1, i .2, call c .before .loop-test .taken)
 
-lent : (at : ℕ) (slots : List ℕ) → at + 512 ≤ length slots → length (midOf at (at + 512 - at) slots) ≡ 512
-lent at slots h = mid-len at (at + 512) slots h ∙ omega arith
-
 fill-leaf-requires : tie.Need-fill-leaf-requires Inv-loop μ-loop
 fill-leaf-requires c κs =
     let o = c .before .before in
     let q = o .before .before .before in
     let l = turn (call q) in
-    (held-leaf (follows _ _ (start l .pre .0 .width) _ (next q) .0) (o .if2 .left), lent (l .loop .at) (l .loop .slots) (fits q))
+    (held-leaf (follows _ _ (start l .pre .0 .width) _ (next q) .0) (o .if2 .left), lent (l .loop .at) 512 (l .loop .slots) (fits q))
 
 loop-again-2 : tie.Need-loop-again-2 Inv-loop μ-loop
 loop-again-2 c =
@@ -92,7 +89,7 @@ loop-again-2 c =
     let l = turn (call q) .loop in
     let kept = f .fill-leaf .kept .1 .1 .1 .1 .0 in
     let same = same-len-mid (l .at) (l .at + 512 - l .at) (l .slots) (f .fill-leaf .last .1 .1 .1 .1 .0) kept in
-    let many = kept ∙ lent (l .at) (l .slots) (fits q) in
+    let many = kept ∙ lent (l .at) 512 (l .slots) (fits q) in
     let room = fits q in (
       same ∙ l .inv .0,
       omega (arith, same, room),
