@@ -1,4 +1,6 @@
 // Section 2 of document 01: the answers of a file, by name and by number. Each opens the whole file first.
+#![tactic(auto)]
+
 ghost use Rattle.std.specs.Prelude.{◌≡◌};
 ghost use Rattle.archive.specs.Archive.{open_file, grid_asked, grid_named, grid_numbered, entry_at, file_entry, grid_entry, grid_entry_named, grid_entry_numbered};
 ghost use Rattle.answers.specs.Answers.{says_header_answer, says_descriptor_answer, says_entry_answer};

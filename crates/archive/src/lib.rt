@@ -1,4 +1,6 @@
 // Section 2 of document 01: the whole file, with the grid that is asked for.
+#![tactic(auto)]
+
 ghost use Rattle.std.specs.Prelude.{◌≡◌, ◌≤◌, ◌<◌, [], take, true, false};
 ghost use Rattle.std.proofs.Math.Option.{some, none};
 ghost use Rattle.fields.specs.Parse.{when};
@@ -12,7 +14,7 @@ use fields::{Difference, Span};
 use header::{ArchiveHeader, HeaderField};
 
 // Which grid is asked for, if any; a name stands beside it.
-#[derive(Drop)]
+#[derive(Clone, Copy)]
 pub enum Asked {
     Nothing,
     ByName,

@@ -1,4 +1,6 @@
 // Document 01, sections 5 and 7: 64 slots at once, those of the places of a mask word.
+#![tactic(auto)]
+
 ghost use Rattle.std.specs.Prelude.{◌≡◌, true, ◌+◌, ◌*◌, ◌≤◌, length};
 ghost use Rattle.fields.specs.Le.{u16_at};
 ghost use Rattle.masks.specs.Masks.{digit, count_below};

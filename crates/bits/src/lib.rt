@@ -1,4 +1,6 @@
 // Document 01, section 7: the records of the places of one mask word, from any of its places on, into lent slots.
+#![tactic(auto)]
+
 ghost use Rattle.std.specs.Prelude.{◌≡◌, ◌+◌, ◌-◌, ◌≤◌, ◌<◌, ◌^◌};
 ghost use Rattle.std.specs.Int.Count.{count_trailing_zeros};
 ghost use Rattle.masks.specs.Masks.{digit, count_below};
@@ -11,7 +13,7 @@ use forms::Coding;
 use slots::Inside;
 
 // The places of one mask word that are left, `left` of them: their bits of the value mask and of the child mask, the next place's lowest.
-#[derive(Drop)]
+#[derive(Clone, Copy)]
 pub struct Bits {
     pub inside: Inside,
     pub left: u32,
@@ -20,7 +22,7 @@ pub struct Bits {
 }
 
 // Where the walk stands when it stops, the first slot that it did not fill, and whether all that it needed lies in the file.
-#[derive(Drop)]
+#[derive(Clone, Copy)]
 pub struct Run {
     pub inside: Inside,
     pub filled: usize,

@@ -1,6 +1,8 @@
 // The place formulas of document 01, section 4, and their way back. A place number, a place in its node and a voxel
 // coordinate are three kinds, converted only here. A node is given by its side and step: 32 and 128 for a 5-node, 16 and 8
 // for a 4-node, 8 and 1 for a leaf; one proof serves all three.
+#![tactic(auto)]
+
 ghost use Rattle.std.specs.Prelude.{◌≡◌, true, ◌*◌, ◌<◌};
 ghost use Rattle.coordinates.specs.Inner.{Divides, Node};
 ghost use Rattle.coordinates.specs.Coordinates.{aligned, coord_of, global_of, local_of, place_along, place_of, places, remainder, root_coord, root_origin, same_coord, origin_of};
@@ -8,7 +10,7 @@ ghost use Rattle.coordinates.specs.Coordinates.{aligned, coord_of, global_of, lo
 use fields::IVec3;
 
 // The place number of a child, a tile or a voxel in its node.
-#[derive(Drop)]
+#[derive(Clone, Copy)]
 pub struct Index(pub u32);
 
 // A place in its node: x, y and z, each below the node's side.
@@ -16,7 +18,7 @@ pub struct Index(pub u32);
 pub struct LocalCoord(pub u32, pub u32, pub u32);
 
 // A voxel coordinate.
-#[derive(Drop)]
+#[derive(Clone, Copy)]
 pub struct GlobalCoord(pub i32, pub i32, pub i32);
 
 // The remainder of v by m, 0 to m - 1, also for a negative v. Adding 2147483648, a multiple of m, leaves it as it is.

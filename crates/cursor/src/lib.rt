@@ -1,6 +1,8 @@
 // Document 01, section 7: the pieces of a tree in the order of the active list, one a call: a leaf's block, a 4-node after its leaves, a 5-node
 // after its 4-nodes. In between, all there is stands in a cursor, which the caller keeps. It is plain numbers and may come from anywhere, so
 // nothing is read that was not tested to lie in the file.
+#![tactic(auto)]
+
 ghost use Rattle.std.specs.Prelude.{◌≡◌, true, ◌+◌, ◌%◌, ◌≤◌, ◌<◌};
 ghost use Rattle.coordinates.specs.Coordinates.{aligned};
 ghost use Rattle.coordinates.specs.Inner.{Divides};
@@ -27,7 +29,7 @@ pub struct Piece {
 }
 
 // A node whose children are being handed out: its origin, where it starts in the file, and the first of its places that is not passed.
-#[derive(Drop)]
+#[derive(Clone, Copy)]
 pub struct Entered {
     pub origin: GlobalCoord,
     pub pos: usize,
@@ -37,7 +39,7 @@ pub struct Entered {
 // Where a traversal stands: in how many nodes (0 between roots, 1 in a 5-node, 2 in a 4-node of it; more counts as 2), how many roots follow,
 // these two nodes, and where topology and blocks go on. A node that it does not stand in is all zeros: behind each piece there is one cursor,
 // whichever way it was reached.
-#[derive(Drop)]
+#[derive(Clone, Copy)]
 pub struct Cursor {
     pub depth: u32,
     pub roots_left: u32,

@@ -1,4 +1,6 @@
 // Section 2 of document 01: a grid's descriptor.
+#![tactic(auto)]
+
 ghost use Rattle.std.specs.Prelude.{◌≡◌};
 ghost use Rattle.fields.specs.Fields.{ascii};
 ghost use Rattle.metadata.specs.Metadata.{lookup};
@@ -28,14 +30,14 @@ pub struct GridPositions {
 }
 
 // What the entry that tells of halves says, if it is there and a bool.
-#[derive(Drop)]
+#[derive(Clone, Copy)]
 pub enum HalfEntry {
     Says(bool),
     Nothing,
 }
 
 // Which tree the name of a grid's type stands for: one of floats, one of floats with the ending that tells of halves, or another.
-#[derive(Drop)]
+#[derive(Clone, Copy)]
 pub enum TreeKind {
     Float,
     HalfFloat,
@@ -43,7 +45,7 @@ pub enum TreeKind {
 }
 
 // A grid's descriptor with its flags; meta_pos is where its metadata starts, tree_pos where what follows it starts.
-#[derive(Drop)]
+#[derive(Clone, Copy)]
 pub struct GridDescriptor {
     pub name: Span,
     pub grid_type: Span,

@@ -1,6 +1,8 @@
 // Document 01, section 5: the 512 values of a leaf, by words of 64 places. A word whose places are all stored is copied. In another one the inactive
 // values come first, into all 64 slots, and then each stored value over its own: nobody can foresee which places are stored, and to ask at each of them
 // takes longer than to write some twice.
+#![tactic(auto)]
+
 ghost use Rattle.std.specs.Prelude.{◌≡◌, ◌+◌, ◌%◌, ◌<◌, length};
 ghost use Rattle.masks.specs.Inner.{IsMask, IsWord};
 ghost use Rattle.forms.specs.Inner.{SelectionHeld};

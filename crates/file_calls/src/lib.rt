@@ -1,5 +1,7 @@
 // The questions about a file and its grids for a caller in another language: the answer's words are laid into a lent array. What is returned is 0, or the
 // number of the check that refused; then nothing lent is changed.
+#![tactic(auto)]
+
 ghost use Rattle.std.specs.Prelude.{◌≡◌};
 ghost use Rattle.archive.specs.Archive.{open_file, grid_named, grid_numbered, file_entry, grid_entry_named, grid_entry_numbered};
 ghost use Rattle.outward.specs.Outward.{laid, header_words, descriptor_words, entry_words};

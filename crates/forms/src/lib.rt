@@ -1,6 +1,8 @@
 // Document 01, section 5: what stands before a node's stored values. The node byte selects one of seven forms, which says what the inactive places
 // hold, with the grid's background where nothing is carried for them, and which places are stored. A node is given by the number n of bytes of each
 // of its masks.
+#![tactic(auto)]
+
 ghost use Rattle.std.specs.Prelude.{◌≡◌};
 ghost use Rattle.fields.specs.Parse.{field, when};
 ghost use Rattle.fields.specs.Says.{says_u32};
@@ -13,7 +15,7 @@ use fields::{SpanField, U8Field, U32Field};
 
 // How a grid's values are stored: the file's version, the grid's flags, the width of a stored value, 2 or 4 bytes, and the pattern of the grid's
 // background.
-#[derive(Drop)]
+#[derive(Clone, Copy)]
 pub struct Coding {
     pub version: u32,
     pub flags: u32,
@@ -23,7 +25,7 @@ pub struct Coding {
 
 // What a node byte selects: whether a first and a second inactive value are carried, whether the background stands negated for the first, whether a
 // selection mask is carried, and whether flag 0x2 leaves only the active places.
-#[derive(Drop)]
+#[derive(Clone, Copy)]
 pub struct Form {
     pub has_first: bool,
     pub has_second: bool,
@@ -33,7 +35,7 @@ pub struct Form {
 }
 
 // Which places of a node are stored: every one, the active ones, or those without a child.
-#[derive(Drop)]
+#[derive(Clone, Copy)]
 pub enum Stored {
     Every,
     Active,
@@ -41,14 +43,14 @@ pub enum Stored {
 }
 
 // Where a selection mask stands, if there is one.
-#[derive(Drop)]
+#[derive(Clone, Copy)]
 pub enum Selection {
     At(usize),
     Nothing,
 }
 
 // What the inactive places hold: the first and the second inactive value, and the mask that selects between them.
-#[derive(Drop)]
+#[derive(Clone, Copy)]
 pub struct Inactives {
     pub first: u32,
     pub second: u32,

@@ -1,4 +1,6 @@
 // Sections 7 and 8 of document 01: opening a grid by its name or its number.
+#![tactic(auto)]
+
 ghost use Rattle.std.specs.Prelude.{◌≡◌, ◌≤◌};
 ghost use Rattle.fields.specs.Parse.{then, got};
 ghost use Rattle.fields.specs.Answer.{answer};

@@ -1,5 +1,7 @@
 // Opening a grid, and the walk, for a caller in another language: the answer's words are laid into lent arrays. What is returned is 0, or the number of the
 // check that refused; then nothing lent is changed.
+#![tactic(auto)]
+
 ghost use Rattle.std.specs.Prelude.{◌≡◌};
 ghost use Rattle.grid.specs.Grid.{open_grid_named, open_grid_numbered};
 ghost use Rattle.slots.specs.Slots.{slots_of};

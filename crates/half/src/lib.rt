@@ -1,4 +1,6 @@
 // Document 01, section 5: a stored value is a half or a 32-bit float, and is handed out as a 32-bit pattern.
+#![tactic(auto)]
+
 ghost use Rattle.std.specs.Prelude.{◌≡◌, true, ◌+◌, ◌-◌, ◌%◌, ◌≤◌, length};
 ghost use Rattle.half.specs.Half.{exponent, stored_value, widened};
 ghost use Rattle.half.specs.Inner.{are_normal, is_normal, IsWidth};

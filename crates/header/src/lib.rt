@@ -1,4 +1,6 @@
 // Section 2 of document 01: the header.
+#![tactic(auto)]
+
 ghost use Rattle.std.specs.Prelude.{◌≡◌};
 ghost use Rattle.header.specs.Header.{magic_field, version_field, offsets_field, packed_field, front_field, count_field, header};
 ghost use Rattle.header.specs.Inner.{says_magic, says_number, says_packed, says_front, says_header, front_end_field};
@@ -16,7 +18,7 @@ pub struct Front {
 }
 
 // What stands before the descriptors; meta_pos is where the file's metadata starts.
-#[derive(Drop)]
+#[derive(Clone, Copy)]
 pub struct ArchiveHeader {
     pub file_version: u32,
     pub library_version_major: u32,

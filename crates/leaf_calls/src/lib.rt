@@ -1,5 +1,7 @@
 // The values of leaves and their origins for a caller in another language. What is returned is 0, or the number of the check that refused; then no slot is
 // changed.
+#![tactic(auto)]
+
 ghost use Rattle.std.specs.Prelude.{◌≡◌, length};
 ghost use Rattle.leaves.specs.Leaves.{fill_leaf_named, fill_leaf_numbered, fill_leaves_named, fill_leaves_numbered};
 ghost use Rattle.origins.specs.Origins.{axes, leaf_origins_named, leaf_origins_numbered};

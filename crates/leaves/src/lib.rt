@@ -1,4 +1,6 @@
 // Sections 6 and 8 of document 01: the values of a leaf, and those of a run of leaves with one opening of the grid.
+#![tactic(auto)]
+
 ghost use Rattle.std.specs.Prelude.{◌≡◌, ◌&&◌, ◌-◌, ◌/◌, ◌%◌, leb, length, drop};
 ghost use Rattle.fields.specs.Parse.{when};
 ghost use Rattle.leaves.specs.Leaves.{fill_leaf, fill_leaf_named, fill_leaf_numbered, fill_leaves, fill_leaves_named, fill_leaves_numbered};

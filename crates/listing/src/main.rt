@@ -1,5 +1,7 @@
 // Lists the records of a file's first grid, a line each: document 01, section 9. The file is read from standard input. All that matters is in the
 // library; this program lends it slots and prints what it answers.
+#![tactic(auto)]
+
 ghost use Rattle.std.specs.Prelude.{◌≤◌};
 
 use asking::show;

@@ -1,6 +1,8 @@
 // Document 01, sections 4, 5 and 7: masks, of n bytes at a position of the file. A node's masks have 4096 or 512 bytes, a leaf's 64; each
 // function takes any of them. All but `bit` go by words of 64 places. They are leaf functions: their callers have tested that the mask lies
 // in the file.
+#![tactic(auto)]
+
 ghost use Rattle.std.specs.Prelude.{◌≡◌, ◌+◌, ◌*◌, ◌/◌, ◌%◌, ◌^◌, ◌≤◌, ◌<◌};
 ghost use Rattle.std.specs.Int.Count.{count_trailing_zeros};
 ghost use Rattle.masks.specs.Masks.{mask_bit, count_below, overlap, agree};

@@ -1,4 +1,6 @@
 // Section 2 of document 01: metadata entries, and of several of one name the last.
+#![tactic(auto)]
+
 ghost use Rattle.std.specs.Prelude.{◌≡◌, ◌-◌};
 ghost use Rattle.std.proofs.Math.Option.{some};
 ghost use Rattle.fields.specs.Parse.{when};

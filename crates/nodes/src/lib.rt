@@ -1,4 +1,6 @@
 // Document 01, sections 4 and 6: a node's masks and stored values, and a leaf's block.
+#![tactic(auto)]
+
 ghost use Rattle.std.specs.Prelude.{◌≡◌, ◌≤◌, ◌%◌};
 ghost use Rattle.fields.specs.Inner.{end_of, says_end};
 ghost use Rattle.half.specs.Inner.{IsWidth};
@@ -21,7 +23,7 @@ pub struct NodeHeader {
 }
 
 // A leaf of the topology: its origin, and where its value mask stands.
-#[derive(Drop)]
+#[derive(Clone, Copy)]
 pub struct Leaf {
     pub origin: GlobalCoord,
     pub mask: usize,

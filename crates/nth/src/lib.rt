@@ -1,5 +1,7 @@
 // Document 01, section 7: the place of the one with a given number in a mask, and a walk right behind the place of a record with a given number in its
 // piece.
+#![tactic(auto)]
+
 ghost use Rattle.std.specs.Prelude.{◌≡◌, ◌+◌, ◌*◌, ◌≤◌, ◌<◌};
 ghost use Rattle.masks.specs.Masks.{mask_bit, count_below};
 ghost use Rattle.masks.specs.Inner.{IsMask};

@@ -1,4 +1,6 @@
 // Section 6 of document 01: the origins of a run of leaves, with one opening of the grid.
+#![tactic(auto)]
+
 ghost use Rattle.std.specs.Prelude.{◌≡◌, ◌&&◌, ◌-◌, ◌<◌, leb, length, set};
 ghost use Rattle.leaves.specs.Answers.{says_fill, KeptBy};
 ghost use Rattle.leaves.specs.Inner.{HasLeaves};

@@ -1,4 +1,6 @@
 // What an answer looks like as plain words, for a caller in another language: the words of a header, of a descriptor, of an entry and of an opened grid.
+#![tactic(auto)]
+
 ghost use Rattle.std.specs.Prelude.{◌≡◌, ◌+◌, ◌*◌, ◌≤◌, length};
 ghost use Rattle.outward.specs.Outward.{half_number, header_words, descriptor_words, entry_words, double_count, double_at, opened_words};
 ghost use Rattle.outward.specs.Inner.{DoublesHeld};

@@ -1,6 +1,8 @@
 // Answers questions about the parts of the library, a line of the input each, and writes each line again with its answer behind it. The
 // language stands in asking/src/line.rt and asking/src/file.rt, and in layers.rt. The questions and what must be written come from
 // tools/questions.
+#![tactic(auto)]
+
 mod layers;
 
 use asking::line;

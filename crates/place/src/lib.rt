@@ -1,4 +1,6 @@
 // Document 01, section 7: where a walk stands, and the records that follow.
+#![tactic(auto)]
+
 ghost use Rattle.std.specs.Prelude.{◌≡◌, true, ◌-◌, ◌≤◌, ◌<◌, min};
 ghost use Rattle.half.specs.Inner.{IsWidth};
 ghost use Rattle.cursor.specs.Inner.{piece_of};
@@ -18,7 +20,7 @@ use slots::Inside;
 
 // What a walk starts from, which tells its grid: how values are stored, where root tiles, roots and blocks start, how many tiles and roots there are,
 // and the length of the active list.
-#[derive(Drop)]
+#[derive(Clone, Copy)]
 pub struct Start {
     pub coding: Coding,
     pub tiles_pos: usize,
@@ -31,7 +33,7 @@ pub struct Start {
 
 // Where a walk stands, all in whole numbers: what it started from, the number of records left, and where it stands right behind the record that was
 // handed out last: the cursor behind that record's piece, and the place in that piece.
-#[derive(Drop)]
+#[derive(Clone, Copy)]
 pub struct Place {
     pub start: Start,
     pub left: u64,
@@ -85,7 +87,7 @@ impl Place {
 }
 
 // Where a walk stands among the pieces, and the first slot that it did not fill.
-#[derive(Drop)]
+#[derive(Clone, Copy)]
 pub struct Stand {
     pub cursor: Cursor,
     pub inside: Inside,

@@ -1,5 +1,7 @@
 // Answers questions about files, a line of the input each, and writes each line again with its answer behind it. The language stands in
 // asking/src/line.rt and asking/src/file.rt, in file.rt, calls.rt and corners.rt, and in walks/src/lib.rt. The questions and what must be written come from tools/questions.
+#![tactic(auto)]
+
 mod calls;
 mod corners;
 mod file;

@@ -1,5 +1,7 @@
 // Section 1 of document 01: a reader is the file's bytes with a reading position. The work is done by the crate fields, over a slice and a number;
 // here a field is read where the reader stands, and the reader is moved on.
+#![tactic(auto)]
+
 ghost use Rattle.std.specs.Prelude.{◌≡◌};
 ghost use Rattle.fields.specs.Fields.{u32_field, i_vec3_field, d_vec3_field, bytes_field, string_field};
 ghost use Rattle.fields.specs.Says.{says_u32, says_i_vec3, says_d_vec3, says_span};

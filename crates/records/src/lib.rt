@@ -1,4 +1,6 @@
 // Document 01, section 7: the records of a piece, from where a walk stands in it, into five lent slices.
+#![tactic(auto)]
+
 ghost use Rattle.std.specs.Prelude.{◌≡◌, ◌-◌, ◌*◌, ◌%◌, ◌<◌};
 ghost use Rattle.coordinates.specs.Inner.{Divides};
 ghost use Rattle.half.specs.Inner.{IsWidth};

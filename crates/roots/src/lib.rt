@@ -1,4 +1,6 @@
 // Document 01, section 4: what stands before a tree's roots, and a root's origin.
+#![tactic(auto)]
+
 ghost use Rattle.std.specs.Prelude.{◌≡◌, not, ◌&&◌, ◌≤◌, take};
 ghost use Rattle.coordinates.specs.Coordinates.{aligned};
 ghost use Rattle.roots.specs.Roots.{is_among, origin_field, buffers_field, root_count_field, tiles_field, tree_head_field};
@@ -9,7 +11,7 @@ use fields::{IVec3Field, SpanField, U32Field};
 
 // What stands before the roots: the background's pattern, where the root tiles stand and how many there are, where the roots stand and how many
 // there are.
-#[derive(Drop)]
+#[derive(Clone, Copy)]
 pub struct TreeHead {
     pub background: u32,
     pub tiles_pos: usize,

@@ -1,6 +1,8 @@
 // The two forms with a struct behind a reference at work: the header's version and library numbers, read by a reader; then the records of the first
 // grid, a line each, as `listing` prints them, walked into a row of record structs. The row has 100 slots, so that a call takes several portions of
 // the core's, and the last of these is no full one.
+#![tactic(auto)]
+
 ghost use Rattle.std.specs.Prelude.{◌≤◌, replicate};
 ghost use Rattle.walk.specs.Walk.{Promise};
 ghost use Rattle.rows.specs.Rows.{columns};

@@ -1,5 +1,7 @@
 // Document 01, section 7: the walk call over a lent row of record structs. The core, `walk::walk`, writes five slices of numbers. It is asked for at
 // most 64 records at a time, and these are stored in the row one after the other.
+#![tactic(auto)]
+
 ghost use Rattle.std.specs.Prelude.{◌≡◌, map, ◌-◌, ◌≤◌, min, take};
 ghost use Rattle.slots.specs.Slots.{slots_of, slot_count};
 ghost use Rattle.walk.specs.Walk.{Promise};
@@ -11,7 +13,7 @@ ghost use Rattle.rows.specs.Inner.{together, Portioned};
 use place::Place;
 use walk::{WalkAnswer, Walked};
 
-#[derive(Drop)]
+#[derive(Clone, Copy)]
 pub struct Record {
     pub x: i32,
     pub y: i32,

@@ -1,6 +1,8 @@
 // Document 01, section 5, with N3: which values a node stores, and where their run starts. A node is given by the number n of bytes of each of its masks
 // and by where these stand: its child mask at `child`, its value mask at `value`. A leaf has no child mask; nothing of a leaf is looked up there,
 // and its value mask's position stands in.
+#![tactic(auto)]
+
 ghost use Rattle.std.specs.Prelude.{◌≡◌, ◌*◌, ◌≤◌, ◌<◌};
 ghost use Rattle.masks.specs.Masks.{mask_bit, count_below};
 ghost use Rattle.masks.specs.Inner.{IsMask};
@@ -14,7 +16,7 @@ use fields::{EndField, I64Field, Span, SpanField};
 use forms::{Coding, Inactives, Stored, ValuesHeadField};
 
 // A node's values: which places are stored, what the inactive places hold, and where the run of stored values starts.
-#[derive(Drop)]
+#[derive(Clone, Copy)]
 pub struct Values {
     pub stored: Stored,
     pub inactives: Inactives,

@@ -1,5 +1,7 @@
 // Document 01, section 7: whole pieces of a tree are passed from a cursor on, as long as each fits into what is left of two budgets, so many records
 // and so many leaves. Nothing of a piece is read but its masks, which count its records.
+#![tactic(auto)]
+
 ghost use Rattle.std.specs.Prelude.{◌≡◌, true, ◌/◌};
 ghost use Rattle.std.proofs.Math.Option.{some};
 ghost use Rattle.coordinates.specs.Coordinates.{places};

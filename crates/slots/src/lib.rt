@@ -1,4 +1,6 @@
 // Document 01, section 7: where a walk stands in a piece, and records put into five lent slices: one by one, or 64 at once.
+#![tactic(auto)]
+
 ghost use Rattle.std.specs.Prelude.{◌≡◌, true, ◌+◌, ◌*◌, ◌%◌, ◌≤◌, ◌<◌, length};
 ghost use Rattle.coordinates.specs.Coordinates.{places, global_of, aligned};
 ghost use Rattle.tree.specs.Active.{side_of, edge_of};
@@ -11,7 +13,7 @@ use forms::Coding;
 
 // Where a walk stands in a piece: the piece's level, its origin, where its masks stand, which of its places are stored (0: all, 1: the active
 // ones, else those without a child), where its stored values start; the first place that is not passed, and how many places before it are stored.
-#[derive(Drop)]
+#[derive(Clone, Copy)]
 pub struct Inside {
     pub level: u32,
     pub origin: GlobalCoord,

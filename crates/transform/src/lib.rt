@@ -1,4 +1,6 @@
 // Section 3 of document 01: the transform, one of two maps, each with its doubles.
+#![tactic(auto)]
+
 ghost use Rattle.std.specs.Prelude.{◌≡◌};
 ghost use Rattle.transform.specs.Transform.{map_kind, map_kind_field, scale_field, translated, scale_translate_field, map_field, transform};
 ghost use Rattle.transform.specs.Inner.{says_map_kind, inverses_field, says_scale, says_scale_translate, says_map};

@@ -1,5 +1,7 @@
 // Section 4 of document 01: one pass over the roots and all that the topology has below them. Every check of it is made, and nothing but its end
 // is kept.
+#![tactic(auto)]
+
 ghost use Rattle.std.specs.Prelude.{◌≡◌, ◌≤◌, []};
 ghost use Rattle.fields.specs.Parse.{many};
 ghost use Rattle.fields.specs.Inner.{end_of, says_end};

@@ -1,6 +1,8 @@
 // Document 01, section 5: the value of each place of a node. A node is given by the number n of bytes of each of its masks and by where these stand:
 // its child mask at `child`, its value mask at `value`. A leaf has no child mask; nothing of a leaf is looked up there, and its value mask's position
 // stands in.
+#![tactic(auto)]
+
 ghost use Rattle.std.specs.Prelude.{◌≡◌, ◌+◌, ◌*◌, ◌<◌};
 ghost use Rattle.half.specs.Inner.{IsWidth};
 ghost use Rattle.half.specs.Half.{stored_value};

@@ -1,6 +1,8 @@
 // The reader for programs in C and Rust: the functions of the static library libvdb.a, which include/vdb.h tells. Only what one crate exports goes into the
 // library, so that each function stands here and hands on to the crate that has it. What it returns is 0, or the number of the check that refused; then
 // nothing lent is changed. A slice crosses as a pointer and a length, an array as a pointer.
+#![tactic(auto)]
+
 ghost use Rattle.std.specs.Prelude.{◌≡◌, length};
 ghost use Rattle.archive.specs.Archive.{open_file, grid_named, grid_numbered, file_entry, grid_entry_named, grid_entry_numbered};
 ghost use Rattle.grid.specs.Grid.{open_grid_named, open_grid_numbered};

@@ -1,4 +1,6 @@
 // Document 01, section 7: the walk call.
+#![tactic(auto)]
+
 ghost use Rattle.std.specs.Prelude.{◌≡◌, min};
 ghost use Rattle.slots.specs.Slots.{slots_of};
 ghost use Rattle.walk.specs.Walk.{Promise};
@@ -6,7 +8,7 @@ ghost use Rattle.walk.specs.Walk.{Promise};
 use place::Place;
 
 // The walk's next place, how many slots are filled, and how many records are left.
-#[derive(Drop)]
+#[derive(Clone, Copy)]
 pub struct Walked {
     pub place: Place,
     pub filled: usize,

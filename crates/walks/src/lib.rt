@@ -11,6 +11,8 @@
 // Walk and Next show how many records were handed out, how many are left, whether each slot that had to keep its content did, whether each call
 // handed out and reported what it should, whether a second call from the same place gave the same, and the sum of the records; or the refusal, and
 // whether all slots are as they were.
+#![tactic(auto)]
+
 mod foreign;
 mod lend;
 mod words;

@@ -1,6 +1,8 @@
 // A walk's place as 40 words of 64 bits, for a caller that keeps it as plain numbers: in another language, or in a file. The first word is the number of
 // the words' layout. Any other words behind it are some place: a word of a smaller field counts by its low 32 bits. What a place is turned into is turned
 // back into the same place.
+#![tactic(auto)]
+
 ghost use Rattle.std.specs.Prelude.{◌≡◌};
 ghost use Rattle.fields.specs.Le.{signed};
 ghost use Rattle.words.specs.Words.{pattern, low32, at, layout, has_layout, StandFor, start_by, coords_by, entered_by, cursor_by, inside_by, place_by, start_words, coord_words, entered_words, cursor_words, inside_words, words_of};

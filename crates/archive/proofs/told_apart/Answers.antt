@@ -1,0 +1,15 @@
+use borrow.Author.Rules.{rules}
+use native.Mathlib.Omega.{arith}
+use mathlib.Core.Path.{◌≡◌}
+use Prim.Native.Nat.{◌≤◌, ◌-◌}
+use Rattle.fields.proofs.Laws.{same_length, same_place}
+use Rattle.archive.proofs.told_apart.Goals as goal
+
+pub returns-then-a-b : goal.returns-then-a-b
+returns-then-a-b c _ = same_length _ _ c.if-a-b.true
+
+pub returns-then-a-p : goal.returns-then-a-p
+returns-then-a-p c _ = same_place _ _ _ c.if-a-p.true
+
+pub returns : goal.returns
+returns c e = cc

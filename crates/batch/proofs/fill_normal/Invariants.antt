@@ -1,0 +1,17 @@
+-- The invariant: k slots have the first k halves widened. The loop ends at 64.
+use borrow.Author.Rules.{rules}
+use mathlib.Core.Path.{ap, ◌∙◌}
+use Prim.Native.Nat.{◌+◌, ◌-◌, ◌*◌}
+use native.Mathlib.Omega.{arith}
+use Rattle.fields.specs.Le.{u16_at}
+use Rattle.half.specs.Half.{widened}
+use Rattle.half.specs.Inner.{is_normal}
+use Rattle.half.proofs.Laws.{normal-at}
+use Rattle.batch.proofs.Laws.{Filling, filling-none, filling-next, filling-all}
+use Rattle.batch.proofs.fill_normal.Given as goal
+
+abbrev pub invariant-loop-k : goal.invariant-loop-k
+invariant-loop-k l = Filling l.initial.slots l.slot (λ j. widened (u16_at l.s (l.at + j * 2))) l.slots l.k
+
+abbrev pub decreases-loop-k : goal.decreases-loop-k
+decreases-loop-k l = 64 - l.k

@@ -1,0 +1,14 @@
+use borrow.Author.Rules.{rules}
+use mathlib.Core.Path.{refl}
+use Prim.Native.Nat.{◌-◌}
+use Rattle.batch.proofs.Laws.{Filling, filling-none, filling-next, filling-all}
+use Rattle.batch.proofs.fill_same.Goals as goal
+
+pub loop-k-init : goal.loop-k-init
+loop-k-init c = filling-none _ _ _
+
+pub loop-k-preserved : goal.loop-k-preserved
+loop-k-preserved c = filling-next _ _ _ _ _ c.loop-k.invariant c.loop-k-test.true refl
+
+pub returns : goal.returns
+returns c = filling-all _ _ _ _ _ c.loop-k.invariant c.loop-k-test.false

@@ -1,0 +1,41 @@
+use mathlib.Core.Path.{refl, sym, ◌∙◌}
+use Prim.Native.Nat.{ℕ, ◌^◌, ◌<◌}
+use native.Mathlib.Omega.{arith}
+use lib.Count.{count_trailing_zeros}
+use Rattle.masks.proofs.Ones.{Lowest}
+use Rattle.batch.proofs.Laws.{Setting, left-small, found, setting-none, setting-all, setting-next}
+use Rattle.batch.proofs.put_same.Goals as goal
+
+small : (c : goal.Start) → c.args.ones < 2 ^ 64
+small c = omega (arith, c.ranges.ones)
+
+-- the next one
+next : (c : goal.In-loop-left) → Lowest c.args.ones c.loop-left.invariant.0 (count_trailing_zeros 64 c.loop-left.false)
+next c = found (small c) c.loop-left.invariant.1 c.loop-left-test.true
+
+pub loop-left-init : goal.loop-left-init
+loop-left-init c = (0, setting-none c.requires)
+
+pub overflow_cast-slots : goal.overflow_cast-slots
+overflow_cast-slots c = omega (arith, (next (goal.at.overflow_cast-slots c).In-loop-left).inside)
+
+pub offset_bounds-slots-left : goal.offset_bounds-slots-left
+offset_bounds-slots-left c = omega (arith, (next (goal.at.offset_bounds-slots-left c).In-loop-left).inside)
+
+pub bounds-slots-left : goal.bounds-slots-left
+bounds-slots-left c = omega (arith, (next (goal.at.bounds-slots-left c).In-loop-left).inside, c.loop-left.invariant.1.many)
+
+pub past_lowest-left-requires : goal.past_lowest-left-requires
+past_lowest-left-requires c = (left-small (small (goal.at.past_lowest-left-requires c).Start) c.loop-left.invariant.1, c.loop-left-test.true)
+
+pub loop-left-smaller : goal.loop-left-smaller
+loop-left-smaller c = c.past_lowest-left.ensures.1
+
+pub loop-left-preserved : goal.loop-left-preserved
+loop-left-preserved c = (_, setting-next (small (goal.at.loop-left-preserved c).Start) c.loop-left.invariant.1 c.loop-left-test.true refl c.past_lowest-left.ensures.0)
+
+pub returns : goal.returns
+returns c = c.loop-left.invariant.1.many ∙ sym c.requires
+
+pub TODO-8 : goal.TODO-8
+TODO-8 c = setting-all (small (goal.at.TODO-8 c).Start) c.loop-left.invariant.1 c.loop-left-test.false

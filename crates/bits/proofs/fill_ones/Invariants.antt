@@ -1,0 +1,27 @@
+-- The invariant: behind p places, as many of them active as records were handed out, what is left to hand out makes up the whole.
+use borrow.Author.Rules.{rules}
+use mathlib.Core.Path.{◌≡◌, refl, sym, ap, ◌∙◌}
+use Prim.Native.Nat.{ℕ, ◌+◌, ◌-◌, ◌*◌, ◌/◌, ◌^◌, ◌<◌, ◌≤◌}
+use native.Mathlib.Nat.{zero-mul, div-mul-le_self}
+use native.Mathlib.Omega.{arith}
+use lib.Count.{count_trailing_zeros}
+use Rattle.slots.specs.Slots.{slots_of}
+use Rattle.slots.specs.Inner.{Room}
+use Rattle.masks.specs.Inner.{ones_past}
+use Rattle.masks.proofs.Ones.{lowest-past, past-on}
+use Rattle.bits.specs.Inner.{hand_word, number_in, past}
+use Rattle.bits.specs.declared.Bits.{Bits}
+use Rattle.slots.proofs.Laws.{Same, same, in-room, put_same, put-room, room-less}
+use Rattle.bits.proofs.Laws.{ones_small, Going, goes, ends, hand-full, run_is}
+use Rattle.bits.proofs.Ones.{begins, number-le, leaf-multiple, leaf-places, done, one_inside, one_more}
+use Rattle.bits.proofs.fill_ones.Given as goal
+
+abbrev pub invariant-loop-i : goal.invariant-loop-i
+invariant-loop-i l =
+    (l.p ≤ l.word.left) × (l.slot ≤ l.i) × (l.i - l.slot ≤ l.p) × (l.ones ≡ ones_past l.word.ones l.p)
+    × Room l.limit (slots_of l.x l.y l.z l.level l.value) × Same (slots_of l.x l.y l.z l.level l.value) (slots_of l.initial.x l.initial.y l.initial.z l.initial.level l.initial.value)
+    × Going l.i (hand_word l.s l.c (l.limit - l.i) (past l.word l.p (number_in l.word.inside l.p (l.i - l.slot)))) (slots_of l.x l.y l.z l.level l.value)
+    l.slot (hand_word l.s l.c (l.limit - l.slot) l.word) (slots_of l.initial.x l.initial.y l.initial.z l.initial.level l.initial.value)
+
+abbrev pub decreases-loop-i : goal.decreases-loop-i
+decreases-loop-i l = l.limit - l.i

@@ -1,0 +1,23 @@
+-- All bits, those of the value mask, or those that a child mask lacks.
+use borrow.Author.Rules.{rules}
+use native.Mathlib.Omega.{arith}
+use Rattle.expand.proofs.Laws.{every-word, active-word, childless-word}
+use Rattle.expand.proofs.stored_word.Goals as goal
+
+pub word-requires : goal.word-requires
+word-requires c = (c.requires.0, omega arith, omega arith)
+
+pub word-requires-in-Childless : goal.word-requires-in-Childless
+word-requires-in-Childless c = (c.requires.0, omega arith, omega arith)
+
+pub overflow_sub-result : goal.overflow_sub-result
+overflow_sub-result c = omega (arith, c.word-in-Childless.ensures.below)
+
+pub returns-in-Every : goal.returns-in-Every
+returns-in-Every c = rw c.in-Every.is (every-word _ _ _)
+
+pub returns-in-Active : goal.returns-in-Active
+returns-in-Active c = rw c.in-Active.is (active-word _ _ _ _ c.word.ensures (omega arith))
+
+pub returns-in-Childless : goal.returns-in-Childless
+returns-in-Childless c = rw c.in-Childless.is (childless-word _ _ _ _ c.word-in-Childless.ensures (omega arith))

@@ -1,0 +1,6 @@
+-- The bytes that a start and a length stand for, compared.
+use borrow.Author.Rules.{rules}
+use Rattle.fields.proofs.has_bytes.Goals as goal
+
+pub returns : goal.returns
+returns c = cc

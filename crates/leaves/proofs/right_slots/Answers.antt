@@ -1,0 +1,12 @@
+-- Each test by itself.
+use borrow.Author.Rules.{rules}
+use Rattle.fields.specs.Parse.{when}
+use Rattle.leaves.proofs.right_slots.Goals as goal
+
+pub returns-then-single : goal.returns-then-single
+unfolding when
+returns-then-single c = rw c.if-single.true
+
+pub returns : goal.returns
+unfolding when
+returns c = rw c.if-single.false

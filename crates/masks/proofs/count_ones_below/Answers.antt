@@ -1,0 +1,32 @@
+-- The whole words and the part of the place's own word make the places below it.
+use borrow.Author.Rules.{rules}
+use native.Mathlib.Omega.{arith}
+use mathlib.Core.Path.{◌≡◌}
+use Prim.Native.Nat.{◌+◌, ◌*◌, ◌/◌, ◌%◌}
+use lib.Count.{ones}
+use Rattle.masks.specs.Masks.{mask_bit, count_below}
+use Rattle.masks.proofs.Laws.{count-le}
+use Rattle.masks.proofs.Words.{count-on}
+use Rattle.masks.proofs.count_ones_below.Goals as goal
+
+counted :
+    (c : goal.After-low_bits) → let a = c.args in
+    c.count_ones-whole.result + ones c.low_bits.result ≡ count_below (mask_bit a.s.now a.at) a.p.0
+counted c =
+    let a = c.args in
+    rw c.count_ones-whole.ensures
+    (count-on (mask_bit a.s.now a.at) _ _ c.word.ensures (a.p.0 % 64) _ _ (omega arith) c.low_bits.ensures (omega arith))
+
+pub returns-then-rest-eq0 : goal.returns-then-rest-eq0
+returns-then-rest-eq0 c =
+    let a = c.args in
+    let e : 8 * (a.p.0 / 64 * 8) ≡ a.p.0 = omega arith in
+    rw e at c.count_ones-whole.ensures
+
+pub overflow_add-result : goal.overflow_add-result
+overflow_add-result c =
+    let a = c.args in
+    omega (arith, counted c, count-le (mask_bit a.s.now a.at) a.p.0)
+
+pub returns : goal.returns
+returns c = counted c

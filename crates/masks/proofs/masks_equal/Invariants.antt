@@ -1,0 +1,15 @@
+-- Whether the masks agree below the place reached.
+use borrow.Author.Rules.{rules}
+use native.Mathlib.Omega.{arith}
+use mathlib.Core.Path.{◌≡◌, refl, sym, ap}
+use Prim.Native.Nat.{◌≤◌, ◌+◌, ◌-◌, ◌*◌, ◌%◌}
+use Rattle.masks.specs.Masks.{mask_bit, agree, is_nil}
+use Rattle.masks.proofs.Laws.{ones_none}
+use Rattle.masks.proofs.Words.{agree_on}
+use Rattle.masks.proofs.masks_equal.Given as goal
+
+abbrev pub invariant-loop-i : goal.invariant-loop-i
+invariant-loop-i l = (l.i ≤ l.n) × (l.i % 8 ≡ 0) × (l.same ≡ agree (mask_bit l.s l.a) (mask_bit l.s l.b) (8 * l.i))
+
+abbrev pub decreases-loop-i : goal.decreases-loop-i
+decreases-loop-i l = l.n - l.i

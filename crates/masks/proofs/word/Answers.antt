@@ -1,0 +1,7 @@
+-- The bits of a word, each byte of the slice being below 256.
+use borrow.Author.Rules.{rules}
+use Rattle.masks.proofs.Words.{is_word}
+use Rattle.masks.proofs.word.Goals as goal
+
+pub returns : goal.returns
+returns c = rw c.u64_at.ensures (is_word _ (λ i. (c.shared_slice_known-1.given i).fits) _ _)

@@ -1,0 +1,26 @@
+-- The invariant: what is left to hand out from here is the whole; where slots are left, i is the word of the next place.
+use borrow.Author.Rules.{rules}
+use mathlib.Core.Path.{◌≡◌, refl, sym, ◌∙◌}
+use mathlib.Core.Bool.{true}
+use Prim.Native.Nat.{◌+◌, ◌-◌, ◌*◌, ◌%◌, ◌<◌, ◌≤◌}
+use native.Mathlib.Omega.{arith}
+use borrow.Author.Tests.{not-true, not-false}
+use Rattle.slots.specs.Slots.{slots_of}
+use Rattle.slots.specs.Inner.{Room, Readable}
+use Rattle.bits.specs.Inner.{hand_out}
+use Rattle.records.specs.Inner.{Masks}
+use Rattle.slots.proofs.Laws.{Same, same, room-same}
+use Rattle.bits.proofs.Laws.{Going, starts, ends, ends_so, fills_same, hand-full, run_is}
+use Rattle.records.proofs.Laws.{part-on, hand-readable, hand-masks, hand-done, word_on, word_cut, word-passed}
+use Rattle.records.proofs.fill_words.Given as goal
+
+abbrev pub invariant-loop-i : goal.invariant-loop-i
+invariant-loop-i l =
+    Readable l.s l.c l.room l.t.inside × Masks l.s l.n l.t.inside × (l.t.whole ≡ true)
+    × (l.i % 8 ≡ 0) × (l.t.filled < l.limit → (8 * l.i ≤ l.t.inside.from) × (l.t.inside.from < 8 * l.i + 64))
+    × Room l.limit (slots_of l.x l.y l.z l.level l.value) × Same (slots_of l.x l.y l.z l.level l.value) (slots_of l.initial.x l.initial.y l.initial.z l.initial.level l.initial.value)
+    × Going l.t.filled (hand_out l.s l.c (l.limit - l.t.filled) l.t.inside (8 * l.n - l.t.inside.from)) (slots_of l.x l.y l.z l.level l.value)
+    l.initial.t.filled (hand_out l.s l.c (l.limit - l.initial.t.filled) l.initial.t.inside (8 * l.n - l.initial.t.inside.from)) (slots_of l.initial.x l.initial.y l.initial.z l.initial.level l.initial.value)
+
+abbrev pub decreases-loop-i : goal.decreases-loop-i
+decreases-loop-i l = l.n - l.i

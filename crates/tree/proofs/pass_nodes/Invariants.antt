@@ -1,0 +1,24 @@
+-- Each 4-node that is passed leaves the end of those to come as it was.
+use borrow.Author.Rules.{rules}
+use native.Mathlib.Omega.{arith}
+use mathlib.Core.Bool.{Bool}
+use mathlib.Core.Option.{some}
+use mathlib.Core.Path.{◌≡◌, refl, sym, ◌∙◌}
+use Prim.Native.Nat.{ℕ, ◌≤◌, ◌<◌, ◌-◌}
+use Rattle.fields.specs.Parse.{many}
+use Rattle.fields.proofs.Laws.{told}
+use Rattle.coordinates.specs.declared.GlobalCoord.{GlobalCoord}
+use Rattle.masks.specs.Masks.{mask_bit, ones, ones_from}
+use Rattle.masks.specs.Inner.{next_one, says_next}
+use Rattle.masks.proofs.Laws.{next-lt, next-from}
+use Rattle.fields.specs.Inner.{end_of, says_end}
+use Rattle.tree.specs.Topology.{child_field}
+use Rattle.tree.proofs.Passing.{ones_none, ones-more, ones-fails}
+use Rattle.tree.proofs.pass_nodes.Given as goal
+
+abbrev pub invariant-loop-p : goal.invariant-loop-p
+invariant-loop-p l = (l.from ≤ 32768)
+    × ((o : GlobalCoord) → end_of (many (child_field l.s l.c o) (ones_from (mask_bit l.s l.child) l.from (32768 - l.from)) l.end) ≡ end_of (many (child_field l.s l.c o) (ones (mask_bit l.s l.child) 32768) l.at))
+
+abbrev pub decreases-loop-p : goal.decreases-loop-p
+decreases-loop-p l = 32768 - l.from

@@ -1,0 +1,10 @@
+-- A coordinate is the low half of its word, signed.
+use borrow.Author.Rules.{rules}
+use mathlib.Core.Path.{ap, ◌∙◌}
+use mir.Syntax.{w32}
+use Rattle.fields.specs.Le.{signed}
+use Rattle.fields.proofs.Laws.{kept}
+use Rattle.words.proofs.coord.Goals as goal
+
+pub returns : goal.returns
+returns c = kept w32 _ c.i32_of.type_inv ∙ c.i32_of.ensures ∙ ap (signed 31) c.low.ensures

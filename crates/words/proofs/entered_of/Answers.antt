@@ -1,0 +1,6 @@
+-- The origin is what its three words stand for.
+use borrow.Author.Rules.{rules}
+use Rattle.words.proofs.entered_of.Goals as goal
+
+pub returns : goal.returns
+returns c = rw (c.coords_of-origin.ensures, c.low.ensures)
