@@ -18,8 +18,8 @@ use Rattle.skip.proofs.run_leaves.Given as goal
 
 abbrev pub invariant-loop-leaves : goal.invariant-loop-leaves
 invariant-loop-leaves l =
-    LeavesRan l.s l.c l.origin l.child (record { l.next = l.initial.next; l.at = l.initial.at; l.block = l.initial.block; l.records = l.initial.records; l.leaves = l.initial.leaves })
-    (record { l.next = l.next; l.at = l.at; l.block = l.block; l.records = l.records; l.leaves = l.leaves })
+    LeavesRan l.s l.c l.origin l.child (record { next = l.initial.next; at = l.initial.at; block = l.initial.block; records = l.initial.records; leaves = l.initial.leaves })
+    (record { next = l.next; at = l.at; block = l.block; records = l.records; leaves = l.leaves })
 
 abbrev pub decreases-loop-leaves : goal.decreases-loop-leaves
 decreases-loop-leaves l = l.leaves
