@@ -11,7 +11,7 @@ use lib.Seq.{slice, drop-cons, get_or-take, take-suc-set}
 use Rattle.fields.specs.Parse.{Parse, got, fails, then, when, check}
 use Rattle.fields.specs.Fields.{bytes_of, same_bytes}
 use Rattle.fields.specs.declared.Span.{Span}
-use Rattle.fields.proofs.Laws.{then-got, then-fails, check-passes, check-fails, then-then, check-then, told}
+use Rattle.fields.proofs.Laws.{then-got, then-fails, check-passes, check-fails, then-then, check-then}
 use Rattle.metadata.specs.Metadata.{latest}
 use Rattle.fields.specs.Answer.{Answer, gives, refuses, answer, with}
 use Rattle.archive.specs.Archive.{present, repeated, descriptors, File, file, open_file, is_asked, AskedFile, asked_of, file_asked}

@@ -2,8 +2,10 @@
 // of hexadecimal digits or in quotes. A comma ends a grid's name. A line that begins with # is a comment.
 use crate::{file, show};
 use fields::Span;
+use std::alloc::Global;
+use std::io::{self, Read, Write};
 
-#[derive(Drop)]
+#[derive(Clone, Copy)]
 pub struct Line {
     // the first character; 0 before it
     pub command: u8,
@@ -32,9 +34,11 @@ pub fn empty(len: usize) -> Line {
     }
 }
 
-// The whole input, and its length.
-pub fn input(t: &mut [u8; 524288]) -> usize {
-    io::read_full(0, t)
+// The input; no more than its first 524,288 bytes are read.
+pub fn input(alloc: Global, from: impl Read + Drop) -> io::Result<Vec<u8>> {
+    let mut t = Vec::new(alloc);
+    from.take(524288).read_to_end(&mut t)?;
+    Ok(t)
 }
 
 fn part(f: &[u8; 262144], start: usize, len: usize) -> &[u8] {
@@ -58,7 +62,7 @@ pub fn name(m: Line, f: &[u8; 262144]) -> &[u8] {
 
 fn digit(n: &mut [u64; 8], words: usize, c: u8) {
     let k = words % 8;
-    n[k] = std::num::wrapping_add_u64(n[k] % 1844674407370955162 * 10, (c % 16) as u64);
+    n[k] = (n[k] % 1844674407370955162 * 10).wrapping_add((c % 16) as u64);
 }
 
 // The bytes of the command `bytes` go into the file, those of the others behind all files.
@@ -133,20 +137,31 @@ fn quoted(m: Line, c: u8, f: &mut [u8; 262144]) -> Line {
 }
 
 // A character of the line, which is written again.
-pub fn read(m: Line, c: u8, f: &mut [u8; 262144], n: &mut [u64; 8]) -> Line {
-    show::letter(c);
-    let part = m.part;
-    match part {
+pub fn read(
+    out: &mut impl Write,
+    m: Line,
+    c: u8,
+    f: &mut [u8; 262144],
+    n: &mut [u64; 8],
+) -> io::Result<Line> {
+    show::letter(out, c)?;
+    Ok(match m.part {
         0 => number(m, c, n),
         1 => byte(m, c, f),
         _ => quoted(m, c, f),
-    }
+    })
 }
 
 // The end of a line, whose answer is written: a command that builds the file is done, and the next line begins.
-pub fn end(command: u8, len: usize, f: &mut [u8; 262144], n: &mut [u64; 8]) -> Line {
-    show::letter(b'\n');
+pub fn end(
+    out: &mut impl Write,
+    command: u8,
+    len: usize,
+    f: &mut [u8; 262144],
+    n: &mut [u64; 8],
+) -> io::Result<Line> {
+    show::letter(out, b'\n')?;
     let after = file::build(command, len, f, n);
     *n = [0u64; 8];
-    empty(after)
+    Ok(empty(after))
 }

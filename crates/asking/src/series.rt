@@ -1,12 +1,13 @@
 // A sum of a row of numbers in which each one's place counts.
 use crate::show;
+use std::io::{self, Write};
 
 // The sum with one number more.
 pub fn add(sum: u64, x: u64) -> u64 {
     (sum % 4294967296 * 65599 + x % 1099511627776) % 4294967291
 }
 
-pub fn end(sum: u64) {
-    show::tag(b'=');
-    show::wide(sum);
+pub fn end(out: &mut impl Write, sum: u64) -> io::Result<()> {
+    show::tag(out, b'=')?;
+    show::wide(out, sum)
 }

@@ -1,135 +1,125 @@
-// What is printed of the answers: numbers and bytes, most of them after a space. There are few byte strings here, as each of them costs its proof.
+// What is printed of the answers: numbers and bytes, most of them after a space.
 use fields::{DVec3, IVec3, Span};
+use std::io::{self, Write};
 
 // One character, as it is.
-pub fn letter(c: u8) {
-    io::write_all(1, &[c]);
+pub fn letter(out: &mut impl Write, c: u8) -> io::Result<()> {
+    out.write_all(&[c])
 }
 
 // Words, as they are.
-pub fn text(t: &[u8]) {
-    io::write_all(1, t);
+pub fn text(out: &mut impl Write, t: &[u8]) -> io::Result<()> {
+    out.write_all(t)
 }
 
-fn space() {
-    letter(b' ');
+fn space(out: &mut impl Write) -> io::Result<()> {
+    letter(out, b' ')
 }
 
 // A letter that says which case it is.
-pub fn tag(c: u8) {
-    space();
-    letter(c);
+pub fn tag(out: &mut impl Write, c: u8) -> io::Result<()> {
+    space(out)?;
+    letter(out, c)
 }
 
-pub fn number(n: u64) {
-    space();
-    io::print_decimal(1, n);
+pub fn number(out: &mut impl Write, n: u64) -> io::Result<()> {
+    write!(out, " {n}")
 }
 
-pub fn size(n: usize) {
-    number(n as u64);
+pub fn size(out: &mut impl Write, n: usize) -> io::Result<()> {
+    number(out, n as u64)
 }
 
-pub fn small(n: u32) {
-    number(n as u64);
+pub fn small(out: &mut impl Write, n: u32) -> io::Result<()> {
+    number(out, n as u64)
 }
 
-pub fn flag(b: bool) {
-    number(b as u64);
+pub fn flag(out: &mut impl Write, b: bool) -> io::Result<()> {
+    number(out, b as u64)
 }
 
 // A pattern of 32 bits.
-pub fn pattern(n: u32) {
-    wide(n as u64);
+pub fn pattern(out: &mut impl Write, n: u32) -> io::Result<()> {
+    wide(out, n as u64)
 }
 
-pub fn wide(n: u64) {
-    space();
-    io::print_hex(1, n, 8);
+pub fn wide(out: &mut impl Write, n: u64) -> io::Result<()> {
+    write!(out, " {n:08x}")
 }
 
-// A signed number as its sign and its magnitude; the least number's magnitude has no i64, so the sum is made last.
-fn plain(n: i64) {
-    if n < 0 {
-        letter(b'-');
-        io::print_decimal(1, (!n) as u64 + 1);
-    } else {
-        io::print_decimal(1, n as u64);
-    }
+fn plain(out: &mut impl Write, n: i64) -> io::Result<()> {
+    write!(out, "{n}")
 }
 
-pub fn signed(n: i64) {
-    space();
-    plain(n);
+pub fn signed(out: &mut impl Write, n: i64) -> io::Result<()> {
+    space(out)?;
+    plain(out, n)
 }
 
 // A signed number with no space before it, as at a line's start.
-pub fn plain32(n: i32) {
-    plain(n as i64);
+pub fn plain32(out: &mut impl Write, n: i32) -> io::Result<()> {
+    plain(out, n as i64)
 }
 
-pub fn signed32(n: i32) {
-    space();
-    plain32(n);
+pub fn signed32(out: &mut impl Write, n: i32) -> io::Result<()> {
+    space(out)?;
+    plain32(out, n)
 }
 
-pub fn i_vec3(v: IVec3) {
-    signed32(v.x);
-    signed32(v.y);
-    signed32(v.z);
+pub fn i_vec3(out: &mut impl Write, v: IVec3) -> io::Result<()> {
+    signed32(out, v.x)?;
+    signed32(out, v.y)?;
+    signed32(out, v.z)
 }
 
-pub fn refused(k: u32) {
-    text(b" refused");
-    small(k);
+pub fn refused(out: &mut impl Write, k: u32) -> io::Result<()> {
+    text(out, b" refused")?;
+    small(out, k)
 }
 
-pub fn nothing() {
-    text(b" nothing");
+pub fn nothing(out: &mut impl Write) -> io::Result<()> {
+    text(out, b" nothing")
 }
 
 // A byte of a name; one that is no letter in hexadecimal digits.
-fn shown(c: u8) {
+fn shown(out: &mut impl Write, c: u8) -> io::Result<()> {
     match c {
-        b' '..=b'~' => letter(c),
-        _ => {
-            letter(b'\\');
-            io::print_hex(1, c as u64, 2);
-        }
+        b' '..=b'~' => letter(out, c),
+        _ => write!(out, "\\{c:02x}"),
     }
 }
 
-fn bytes(t: &[u8]) {
-    for i in 0..t.len() {
-        shown(t[i]);
+fn bytes(out: &mut impl Write, t: &[u8]) -> io::Result<()> {
+    for c in t {
+        shown(out, *c)?;
     }
+    Ok(())
 }
 
 // Start, length and the bytes themselves.
-pub fn span(s: &[u8], w: Span) {
-    size(w.start);
-    size(w.len);
-    tag(b'"');
-    bytes(fields::bytes_of(s, w));
-    letter(b'"');
+pub fn span(out: &mut impl Write, s: &[u8], w: Span) -> io::Result<()> {
+    size(out, w.start)?;
+    size(out, w.len)?;
+    tag(out, b'"')?;
+    bytes(out, fields::bytes_of(s, w))?;
+    letter(out, b'"')
 }
 
-fn bits(n: u64) {
-    space();
-    io::print_hex(1, n, 16);
+fn bits(out: &mut impl Write, n: u64) -> io::Result<()> {
+    write!(out, " {n:016x}")
 }
 
 // The double's pattern; a NaN has no one pattern.
-pub fn double(x: f64) {
+pub fn double(out: &mut impl Write, x: f64) -> io::Result<()> {
     if x != x {
-        text(b" nan");
+        text(out, b" nan")
     } else {
-        bits(f64::to_bits(x));
+        bits(out, f64::to_bits(x))
     }
 }
 
-pub fn d_vec3(v: DVec3) {
-    double(v.x);
-    double(v.y);
-    double(v.z);
+pub fn d_vec3(out: &mut impl Write, v: DVec3) -> io::Result<()> {
+    double(out, v.x)?;
+    double(out, v.y)?;
+    double(out, v.z)
 }

@@ -8,7 +8,7 @@ use native.Mathlib.Omega.{arith}
 use lib.Dec.{leb}
 use lib.ListN.{length, get_or}
 use lib.Seq.{slice, slice-cons, slice_empty}
-use borrow.Author.Tests.{leb-true, leb-false, not-true, not-false}
+use borrow.Author.Tests.{leb-true, leb-false, not-true}
 use Rattle.fields.specs.Parse.{got, fails, then, many, times, check}
 use Rattle.fields.specs.Fields.{bytes_field}
 use Rattle.fields.specs.declared.Span.{Span}
@@ -104,11 +104,11 @@ module _ (o : GlobalCoord) (l : List GlobalCoord) (k n : ℕ) where
 
 -- check 17, of the origin o that was read as v
 module _ {o : GlobalCoord} (v : IVec3) (earlier : List GlobalCoord) {ok : Bool} (p : ℕ) (e : o ≡ origin_of v) (k : ok ≡ (aligned 4096 o && not (is_among o earlier))) where
-  pub old-origin : not ok ≡ true → fails 17 ≡ check (aligned 4096 (origin_of v) && not (is_among (origin_of v) earlier)) 17 (got (origin_of v) p)
-  old-origin h = check-fails _ (sym (not-true _ h) ∙ rw e at k)
+  pub old-origin : ok ≡ false → fails 17 ≡ check (aligned 4096 (origin_of v) && not (is_among (origin_of v) earlier)) 17 (got (origin_of v) p)
+  old-origin h = check-fails _ (sym h ∙ rw e at k)
 
-  pub new-origin : not ok ≡ false → got o p ≡ check (aligned 4096 (origin_of v) && not (is_among (origin_of v) earlier)) 17 (got (origin_of v) p)
-  new-origin h = check-passes 17 (sym (not-false _ h) ∙ rw e at k) (ap (λ (x : GlobalCoord). got x p) e)
+  pub new-origin : ok ≡ true → got o p ≡ check (aligned 4096 (origin_of v) && not (is_among (origin_of v) earlier)) 17 (got (origin_of v) p)
+  new-origin h = check-passes 17 (sym h ∙ rw e at k) (ap (λ (x : GlobalCoord). got x p) e)
 
 -- an origin that was read is aligned, and what follows it lies in the file
 pub origin-aligned : (earlier : List GlobalCoord) (s : List ℕ) (at : ℕ) → Always (λ o p. (aligned 4096 o ≡ true) × (at ≤ p) × (p ≤ length s)) (origin_field s earlier at)

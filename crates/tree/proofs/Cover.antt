@@ -1,18 +1,16 @@
 -- The active list against the descent: the records that cover a voxel are the one that the descent names, or none.
 use mathlib.Core.Path.{◌≡◌, refl, sym, ap, ◌∙◌}
 use mathlib.Core.List.{List, [], ◌∷◌, ◌++◌, map, append-nil, Memᴰ, flat_map}
-use mathlib.Core.Bool.{Bool, true, false, ◌||◌, true≢false, false≢true}
+use mathlib.Core.Bool.{Bool, true, false, ◌||◌, true≢false}
 use Prim.Native.Nat.{ℕ, zero, suc, ◌+◌, ◌-◌, ◌*◌, ◌<◌, ◌≤◌}
 use native.Mathlib.Nat.{sub-zero}
 use native.Mathlib.Omega.{arith}
 use lib.Dec.{lit<, lit≤}
-use borrow.Author.Tests.{eqb-true, eq-eqb}
 use lib.ListN.{length, get_or, get_or-map}
 use Rattle.fields.specs.Parse.{when}
 use Rattle.coordinates.specs.Coordinates.{index, places, global_of, root_origin, covers, aligned, same_coord}
 use Rattle.coordinates.specs.declared.Index.{Index}
 use Rattle.coordinates.specs.declared.GlobalCoord.{GlobalCoord}
-use Rattle.coordinates.proofs.Axis.{and_both}
 use Rattle.coordinates.proofs.Laws.{inside-parent, place-below, way_back, way-back-only, child-aligned, root-covers, root-only}
 use Rattle.masks.specs.Masks.{mask_bit, ones, count_below, overlap}
 use Rattle.masks.proofs.Laws.{ones-mem, ones_split, one-nth, overlap-apart}

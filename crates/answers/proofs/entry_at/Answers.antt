@@ -1,5 +1,4 @@
 -- Metadata that runs past the end is check 2, and an entry that is not found is check 11, as in the definition.
-use borrow.Author.Rules.{rules}
 use Rattle.metadata.specs.Inner.{says_metadata, says_found_entry}
 use Rattle.fields.proofs.Answers.{answers, answer-by}
 use Rattle.archive.proofs.Laws.{with-present}

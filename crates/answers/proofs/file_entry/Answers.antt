@@ -1,5 +1,4 @@
 -- The file is opened first; its metadata is searched from where its header says.
-use borrow.Author.Rules.{rules}
 use Rattle.fields.proofs.Answers.{answers, with-by}
 use Rattle.archive.specs.Archive.{file_entry}
 use Rattle.answers.specs.Answers.{says_header_answer}

@@ -1,5 +1,4 @@
 -- The whole file is opened first; a grid that is not found is check 11.
-use borrow.Author.Rules.{rules}
 use Rattle.fields.proofs.Answers.{answers, with-by}
 use Rattle.archive.proofs.Laws.{present-by}
 use Rattle.archive.specs.Archive.{present, grid_asked}

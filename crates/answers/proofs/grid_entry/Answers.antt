@@ -1,5 +1,4 @@
 -- The grid is found first; its metadata is searched from where its descriptor says.
-use borrow.Author.Rules.{rules}
 use Rattle.fields.proofs.Answers.{answers, with-by}
 use Rattle.archive.specs.Archive.{grid_entry}
 use Rattle.answers.specs.Answers.{says_descriptor_answer}

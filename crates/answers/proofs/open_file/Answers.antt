@@ -1,5 +1,4 @@
 -- Opening a file is opening it with no grid asked for, of which only the header is kept.
-use borrow.Author.Rules.{rules}
 use Rattle.fields.proofs.Answers.{answers, with-by}
 use Rattle.archive.proofs.Laws.{open_by}
 use Rattle.archive.specs.Inner.{says_file}

@@ -1,5 +1,4 @@
 -- The three questions are the three cases of the definition.
-use borrow.Author.Rules.{rules}
 use Rattle.archive.proofs.Laws.{asked_is}
 use Rattle.archive.specs.Archive.{is_asked}
 use Rattle.archive.proofs.is_asked.Goals as goal

@@ -1,11 +1,7 @@
+-- A name is at this place, or among those behind it, or nowhere once none is left.
 use borrow.Author.Rules.{rules}
-use Prim.Native.Nat.{◌-◌}
-use mathlib.Core.Path.{◌≡◌}
-use lib.ListN.{take}
-use lib.Seq.{slice}
 use Rattle.fields.proofs.Steps.{via}
 use Rattle.archive.proofs.Laws.{repeated-here, repeated-later, repeated-end}
-use Rattle.archive.specs.Archive.{repeated}
 use Rattle.archive.proofs.is_repeated.Goals as goal
 
 pub returns-then-same_name : goal.returns-then-same_name

@@ -1,11 +1,8 @@
 -- The invariant: whether a name is among those from here on is the whole answer. The loop ends because fewer names are left.
-use borrow.Author.Rules.{rules}
 use Prim.Native.Nat.{◌-◌}
 use mathlib.Core.Path.{◌≡◌}
 use lib.ListN.{take}
 use lib.Seq.{slice}
-use Rattle.fields.proofs.Steps.{via}
-use Rattle.archive.proofs.Laws.{repeated-here, repeated-later, repeated-end}
 use Rattle.archive.specs.Archive.{repeated}
 use Rattle.archive.proofs.is_repeated.Given as goal
 

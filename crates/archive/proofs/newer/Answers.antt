@@ -1,5 +1,4 @@
 -- The test chooses between the descriptor and what was found before it.
-use borrow.Author.Rules.{rules}
 use Rattle.fields.proofs.Steps.{steps}
 use Rattle.archive.proofs.newer.Goals as goal
 

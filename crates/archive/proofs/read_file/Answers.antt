@@ -1,5 +1,4 @@
 -- The header, then the descriptors. That a header which was read has at most 64 grids is what the second call needs.
-use borrow.Author.Rules.{rules}
 use Rattle.fields.proofs.Laws.{told}
 use Rattle.fields.proofs.Steps.{then_by, steps}
 use Rattle.header.proofs.Laws.{few-grids}

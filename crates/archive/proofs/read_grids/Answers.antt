@@ -1,22 +1,18 @@
+-- One more descriptor is read, it is refused, or none is left.
 use borrow.Author.Rules.{rules}
 use native.Mathlib.Omega.{arith}
-use Prim.Native.Nat.{◌≤◌, ◌-◌}
-use mathlib.Core.Path.{◌≡◌, ◌∙◌}
-use mathlib.Core.List.{[]}
-use mathlib.Core.Option.{none}
-use lib.ListN.{length, take}
+use mathlib.Core.Path.{◌∙◌}
 use Rattle.fields.proofs.Laws.{told}
 use Rattle.fields.proofs.Steps.{by, via}
 use Rattle.archive.proofs.Laws.{grids-more, grids-fails, grids-none, grids-all}
 use Rattle.descriptor.specs.Inner.{says_descriptor}
-use Rattle.archive.specs.Inner.{grids_field, says_found_grid}
 use Rattle.archive.proofs.read_grids.Goals as goal
 
 pub loop-i-init : goal.loop-i-init
 loop-i-init c = search (grids-all, rules)
 
-pub offset_bounds-names-n : goal.offset_bounds-names-n
-offset_bounds-names-n c = search (grids-fails, via, by says_descriptor, rules)
+pub returns-in-Refused : goal.returns-in-Refused
+returns-in-Refused c = search (grids-fails, via, by says_descriptor, rules)
 
 pub loop-i-preserved : goal.loop-i-preserved
 loop-i-preserved c =

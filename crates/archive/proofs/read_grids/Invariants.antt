@@ -1,15 +1,9 @@
 -- The invariant: the descriptors left from here give the whole answer. The loop ends because fewer of them are left.
-use borrow.Author.Rules.{rules}
-use native.Mathlib.Omega.{arith}
 use Prim.Native.Nat.{◌≤◌, ◌-◌}
-use mathlib.Core.Path.{◌≡◌, ◌∙◌}
+use mathlib.Core.Path.{◌≡◌}
 use mathlib.Core.List.{[]}
 use mathlib.Core.Option.{none}
 use lib.ListN.{length, take}
-use Rattle.fields.proofs.Laws.{told}
-use Rattle.fields.proofs.Steps.{by, via}
-use Rattle.archive.proofs.Laws.{grids-more, grids-fails, grids-none, grids-all}
-use Rattle.descriptor.specs.Inner.{says_descriptor}
 use Rattle.archive.specs.Inner.{grids_field, says_found_grid}
 use Rattle.archive.proofs.read_grids.Given as goal
 

@@ -1,5 +1,4 @@
 -- The descriptor is read first, and then check 10 looks for its name among the earlier ones.
-use borrow.Author.Rules.{rules}
 use Rattle.fields.proofs.Steps.{then_by, steps}
 use Rattle.archive.proofs.Laws.{check-repeated, check-new}
 use Rattle.descriptor.specs.Inner.{says_descriptor}

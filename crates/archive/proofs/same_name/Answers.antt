@@ -1,5 +1,4 @@
 -- What tells the names apart, or what their difference says. Nothing is asked of the places.
-use borrow.Author.Rules.{rules}
 use Rattle.fields.specs.Inner.{says_same}
 use Rattle.fields.proofs.Steps.{by}
 use Rattle.archive.proofs.same_name.Goals as goal

@@ -1,7 +1,4 @@
-use borrow.Author.Rules.{rules}
-use native.Mathlib.Omega.{arith}
-use mathlib.Core.Path.{◌≡◌}
-use Prim.Native.Nat.{◌≤◌, ◌-◌}
+-- Two names differ where their lengths do, or a byte of theirs.
 use Rattle.fields.proofs.Laws.{same_length, same_place}
 use Rattle.archive.proofs.told_apart.Goals as goal
 

@@ -1,9 +1,5 @@
--- Two names differ where their lengths do, or a byte of theirs.
-use borrow.Author.Rules.{rules}
-use native.Mathlib.Omega.{arith}
-use mathlib.Core.Path.{◌≡◌}
+-- The invariant: no more places are passed than there are. The loop ends because fewer of them are left.
 use Prim.Native.Nat.{◌≤◌, ◌-◌}
-use Rattle.fields.proofs.Laws.{same_length, same_place}
 use Rattle.archive.proofs.told_apart.Given as goal
 
 abbrev pub invariant-loop-k : goal.invariant-loop-k

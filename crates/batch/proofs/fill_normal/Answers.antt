@@ -1,12 +1,10 @@
-use borrow.Author.Rules.{rules}
+-- A half lies in the file and is normal since all 64 are; each step and the end are laws of `Filling`.
 use mathlib.Core.Path.{ap, ◌∙◌}
-use Prim.Native.Nat.{◌+◌, ◌-◌, ◌*◌}
 use native.Mathlib.Omega.{arith}
-use Rattle.fields.specs.Le.{u16_at}
 use Rattle.half.specs.Half.{widened}
 use Rattle.half.specs.Inner.{is_normal}
 use Rattle.half.proofs.Laws.{normal-at}
-use Rattle.batch.proofs.Laws.{Filling, filling-none, filling-next, filling-all}
+use Rattle.batch.proofs.Laws.{filling-none, filling-next, filling-all}
 use Rattle.batch.proofs.fill_normal.Goals as goal
 
 pub loop-k-init : goal.loop-k-init

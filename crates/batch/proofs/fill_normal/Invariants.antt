@@ -1,13 +1,8 @@
 -- The invariant: k slots have the first k halves widened. The loop ends at 64.
-use borrow.Author.Rules.{rules}
-use mathlib.Core.Path.{ap, ◌∙◌}
 use Prim.Native.Nat.{◌+◌, ◌-◌, ◌*◌}
-use native.Mathlib.Omega.{arith}
 use Rattle.fields.specs.Le.{u16_at}
 use Rattle.half.specs.Half.{widened}
-use Rattle.half.specs.Inner.{is_normal}
-use Rattle.half.proofs.Laws.{normal-at}
-use Rattle.batch.proofs.Laws.{Filling, filling-none, filling-next, filling-all}
+use Rattle.batch.proofs.Laws.{Filling}
 use Rattle.batch.proofs.fill_normal.Given as goal
 
 abbrev pub invariant-loop-k : goal.invariant-loop-k

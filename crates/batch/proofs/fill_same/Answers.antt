@@ -1,7 +1,6 @@
-use borrow.Author.Rules.{rules}
+-- Each step and the end are laws of `Filling`.
 use mathlib.Core.Path.{refl}
-use Prim.Native.Nat.{◌-◌}
-use Rattle.batch.proofs.Laws.{Filling, filling-none, filling-next, filling-all}
+use Rattle.batch.proofs.Laws.{filling-none, filling-next, filling-all}
 use Rattle.batch.proofs.fill_same.Goals as goal
 
 pub loop-k-init : goal.loop-k-init

@@ -1,8 +1,6 @@
 -- The invariant: k slots have the value. The loop ends at 64.
-use borrow.Author.Rules.{rules}
-use mathlib.Core.Path.{refl}
 use Prim.Native.Nat.{◌-◌}
-use Rattle.batch.proofs.Laws.{Filling, filling-none, filling-next, filling-all}
+use Rattle.batch.proofs.Laws.{Filling}
 use Rattle.batch.proofs.fill_same.Given as goal
 
 abbrev pub invariant-loop-k : goal.invariant-loop-k

@@ -1,8 +1,6 @@
-use borrow.Author.Rules.{rules}
-use Prim.Native.Nat.{◌-◌}
+-- Each value lies in the file; each step and the end are laws of `Filling`.
 use native.Mathlib.Omega.{arith}
-use Rattle.batch.specs.Inner.{numbered}
-use Rattle.batch.proofs.Laws.{Filling, filling-none, filling-next, filling-all, one-in-file}
+use Rattle.batch.proofs.Laws.{filling-none, filling-next, filling-all, one-in-file}
 use Rattle.batch.proofs.fill_stored.Goals as goal
 
 pub loop-k-init : goal.loop-k-init

@@ -1,9 +1,7 @@
 -- The invariant: k slots have the first k values, each of which lies in the file. The loop ends at 64.
-use borrow.Author.Rules.{rules}
 use Prim.Native.Nat.{◌-◌}
-use native.Mathlib.Omega.{arith}
 use Rattle.batch.specs.Inner.{numbered}
-use Rattle.batch.proofs.Laws.{Filling, filling-none, filling-next, filling-all, one-in-file}
+use Rattle.batch.proofs.Laws.{Filling}
 use Rattle.batch.proofs.fill_stored.Given as goal
 
 abbrev pub invariant-loop-k : goal.invariant-loop-k

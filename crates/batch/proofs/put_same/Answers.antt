@@ -1,17 +1,19 @@
-use mathlib.Core.Path.{refl, sym, ◌∙◌}
-use Prim.Native.Nat.{ℕ, ◌^◌, ◌<◌}
+-- The lowest one that is left is below 64; each step and the end are laws of `Setting`.
+use mathlib.Core.Path.{refl}
+use Prim.Native.Nat.{◌^◌, ◌<◌}
 use native.Mathlib.Omega.{arith}
 use lib.Count.{count_trailing_zeros}
 use Rattle.masks.proofs.Ones.{Lowest}
-use Rattle.batch.proofs.Laws.{Setting, left-small, found, setting-none, setting-all, setting-next}
+use Rattle.batch.proofs.Laws.{left-small, found, setting-none, setting-all, setting-next}
 use Rattle.batch.proofs.put_same.Goals as goal
+use Rattle.batch.proofs.put_same.Goals.{In-loop-left, Start}
 
-small : (c : goal.Start) → c.args.ones < 2 ^ 64
+small : (c : Start) → c.args.ones < 2 ^ 64
 small c = omega (arith, c.ranges.ones)
 
 -- the next one
-next : (c : goal.In-loop-left) → Lowest c.args.ones c.loop-left.invariant.0 (count_trailing_zeros 64 c.loop-left.false)
-next c = found (small c) c.loop-left.invariant.1 c.loop-left-test.true
+next : (c : In-loop-left) → Lowest c.args.ones c.loop-left.invariant.0 (count_trailing_zeros 64 c.loop-left.left)
+next c = found (omega (arith, c.ranges.ones)) c.loop-left.invariant.1 c.loop-left-test.true
 
 pub loop-left-init : goal.loop-left-init
 loop-left-init c = (0, setting-none c.requires)
@@ -35,7 +37,4 @@ pub loop-left-preserved : goal.loop-left-preserved
 loop-left-preserved c = (_, setting-next (small (goal.at.loop-left-preserved c).Start) c.loop-left.invariant.1 c.loop-left-test.true refl c.past_lowest-left.ensures.0)
 
 pub returns : goal.returns
-returns c = c.loop-left.invariant.1.many ∙ sym c.requires
-
-pub TODO-8 : goal.TODO-8
-TODO-8 c = setting-all (small (goal.at.TODO-8 c).Start) c.loop-left.invariant.1 c.loop-left-test.false
+returns c = setting-all (small (goal.at.returns c).Start) c.loop-left.invariant.1 c.loop-left-test.false

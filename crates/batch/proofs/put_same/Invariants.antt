@@ -1,10 +1,6 @@
 -- The invariant: the ones before some place are set, and those from there on are left. The loop ends because fewer are.
-use mathlib.Core.Path.{refl, sym, ◌∙◌}
-use Prim.Native.Nat.{ℕ, ◌^◌, ◌<◌}
-use native.Mathlib.Omega.{arith}
-use lib.Count.{count_trailing_zeros}
-use Rattle.masks.proofs.Ones.{Lowest}
-use Rattle.batch.proofs.Laws.{Setting, left-small, found, setting-none, setting-all, setting-next}
+use Prim.Native.Nat.{ℕ}
+use Rattle.batch.proofs.Laws.{Setting}
 use Rattle.batch.proofs.put_same.Given as goal
 
 abbrev pub invariant-loop-left : goal.invariant-loop-left

@@ -1,24 +1,25 @@
-use mathlib.Core.Path.{◌≡◌, sym, ap, ◌∙◌}
+-- The lowest one that is left is below 64, and its stored value lies in the file; each step and the end are laws of `Setting`.
+use mathlib.Core.Path.{ap, ◌∙◌}
 use Prim.Native.Nat.{ℕ, ◌+◌, ◌^◌, ◌<◌}
 use native.Mathlib.Omega.{arith}
 use lib.Count.{count_trailing_zeros}
 use lib.ListN.{length}
-use Rattle.masks.specs.Masks.{digit, count_below}
+use Rattle.masks.specs.Masks.{digit}
 use Rattle.masks.proofs.Laws.{ones_none}
 use Rattle.masks.proofs.Ones.{Lowest}
 use Rattle.values.specs.Inner.{InRun}
-use Rattle.batch.specs.Inner.{in_order}
-use Rattle.batch.proofs.Laws.{Setting, left-small, found, setting-none, setting-all, count-all, setting-next, count_next, value_there, value-is}
+use Rattle.batch.proofs.Laws.{left-small, found, setting-none, setting-all, count-all, setting-next, count_next, value_there, value-is}
 use Rattle.batch.proofs.put_stored.Goals as goal
+use Rattle.batch.proofs.put_stored.Goals.{In-loop-left, Start}
 
-small : (c : goal.Start) → c.args.ones < 2 ^ 64
+small : (c : Start) → c.args.ones < 2 ^ 64
 small c = omega (arith, c.ranges.ones)
 
 -- the next one, and its stored value
-next : (c : goal.In-loop-left) → Lowest c.args.ones c.loop-left.invariant.0 (count_trailing_zeros 64 c.loop-left.false)
-next c = found (small c) c.loop-left.invariant.1 c.loop-left-test.true
+next : (c : In-loop-left) → Lowest c.args.ones c.loop-left.invariant.0 (count_trailing_zeros 64 c.loop-left.left)
+next c = found (omega (arith, c.ranges.ones)) c.loop-left.invariant.1 c.loop-left-test.true
 
-there : (c : goal.In-loop-left) → InRun c.args.s.now c.args.c c.args.start c.loop-left.k
+there : (c : In-loop-left) → InRun c.args.s.now c.args.c c.args.start c.loop-left.k
 there c = value_there (next c) _ _ _ _ c.loop-left.invariant.2 c.requires.0
 
 pub loop-left-init : goal.loop-left-init
@@ -53,8 +54,5 @@ loop-left-preserved c = let a = c.args in let i = c.loop-left.invariant in (
 )
 
 pub returns : goal.returns
-returns c = c.loop-left.invariant.1.many ∙ sym c.requires.1
-
-pub TODO-10 : goal.TODO-10
-TODO-10 c = let i = c.loop-left.invariant in
-    (setting-all (small (goal.at.TODO-10 c).Start) i.1 c.loop-left-test.false, i.2 ∙ ap (λ (n : ℕ). c.args.number + n) (count-all (small (goal.at.TODO-10 c).Start) i.1 c.loop-left-test.false))
+returns c = let i = c.loop-left.invariant in
+    (setting-all (small (goal.at.returns c).Start) i.1 c.loop-left-test.false, i.2 ∙ ap (λ (n : ℕ). c.args.number + n) (count-all (small (goal.at.returns c).Start) i.1 c.loop-left-test.false))

@@ -1,16 +1,10 @@
 -- The invariant: the ones before some place are set, those from there on are left, and k is the number of the next stored value. The loop ends because
 -- fewer are left.
-use mathlib.Core.Path.{◌≡◌, sym, ap, ◌∙◌}
-use Prim.Native.Nat.{ℕ, ◌+◌, ◌^◌, ◌<◌}
-use native.Mathlib.Omega.{arith}
-use lib.Count.{count_trailing_zeros}
-use lib.ListN.{length}
+use mathlib.Core.Path.{◌≡◌}
+use Prim.Native.Nat.{ℕ, ◌+◌}
 use Rattle.masks.specs.Masks.{digit, count_below}
-use Rattle.masks.proofs.Laws.{ones_none}
-use Rattle.masks.proofs.Ones.{Lowest}
-use Rattle.values.specs.Inner.{InRun}
 use Rattle.batch.specs.Inner.{in_order}
-use Rattle.batch.proofs.Laws.{Setting, left-small, found, setting-none, setting-all, count-all, setting-next, count_next, value_there, value-is}
+use Rattle.batch.proofs.Laws.{Setting}
 use Rattle.batch.proofs.put_stored.Given as goal
 
 abbrev pub invariant-loop-left : goal.invariant-loop-left

@@ -8,16 +8,17 @@ use mir.Syntax.{w32}
 use mir.Val.{SFits, to_z, of_z}
 use mir.Facts.{to_z-of_z, to_z_pos}
 use Rattle.coordinates.proofs.Axis.{above-in-range}
+use Rattle.coordinates.proofs.axis_coord.Goals.{Start}
 use Rattle.coordinates.proofs.axis_coord.Goals as goal
 
-below : (c : goal.Start) → c.args.x * c.args.step < c.args.side * c.args.step
+below : (c : Start) → c.args.x * c.args.step < c.args.side * c.args.step
 below c = mul-lt-mul_of_pos_right c.requires.1 c.requires.0.step-positive
 
-sum_fits : (c : goal.Start) → SFits w32 (c.args.o +ℤ pos (c.args.x * c.args.step))
+sum_fits : (c : Start) → SFits w32 (c.args.o +ℤ pos (c.args.x * c.args.step))
 sum_fits c = above-in-range c.args.o (c.args.x * c.args.step) (c.args.side * c.args.step) c.requires.0.whole-spans c.ranges.o c.requires.2 (below c)
 
 -- the machine adds what it reads back from the bits of the two numbers
-sum : (c : goal.Start) → to_z w32 (of_z w32 c.args.o) +ℤ to_z w32 (c.args.x * c.args.step) ≡ c.args.o +ℤ pos (c.args.x * c.args.step)
+sum : (c : Start) → to_z w32 (of_z w32 c.args.o) +ℤ to_z w32 (c.args.x * c.args.step) ≡ c.args.o +ℤ pos (c.args.x * c.args.step)
 sum c =
     let b = below c in
     let e = to_z-of_z c.ranges.o in

@@ -9,9 +9,10 @@ use mir.Syntax.{w32}
 use mir.Val.{to_z, of_z}
 use Rattle.coordinates.specs.Coordinates.{index, place_of, places}
 use Rattle.coordinates.proofs.Laws.{nested}
+use Rattle.coordinates.proofs.global_coord_to_offset.Goals.{After-axis_place-z}
 use Rattle.coordinates.proofs.global_coord_to_offset.Goals as goal
 
-module _ (c : goal.After-axis_place-z) where
+module _ (c : After-axis_place-z) where
   abbrev x : ℕ
   x = c.axis_place-x.result
 
@@ -21,18 +22,15 @@ module _ (c : goal.After-axis_place-z) where
   abbrev z : ℕ
   z = c.axis_place-z.result
 
-  abbrev start : goal.Start
-  start = c
-
   abbrev side : ℕ
-  side = start.args.side
+  side = c.args.side
 
   below : (x * side + y) * side + z < places side
   below = digits_lt (digits_lt c.axis_place-x.ensures.1 c.axis_place-y.ensures.1) c.axis_place-z.ensures.1
 
   -- the first sum is no more than the second
   first : x * side + y ≤ (x * side + y) * side
-  first = omega (arith, mul-le-mul_left (x * side + y) start.requires.side-positive, mul-one (x * side + y))
+  first = omega (arith, mul-le-mul_left (x * side + y) c.requires.side-positive, mul-one (x * side + y))
 
 pub overflow_mul-result : goal.overflow_mul-result
 overflow_mul-result c = omega (arith, below c, first c)
@@ -50,7 +48,7 @@ overflow_add-result-2 c = omega (arith, below c)
 pub returns : goal.returns
 unfolding place_of
 returns c =
-    let v = (start c).args.v in
+    let v = c.args.v in
     let x₁ : to_z w32 (of_z w32 v.0) ≡ v.0 = search rules in
     let y₁ : to_z w32 (of_z w32 v.1) ≡ v.1 = search rules in
     let z₁ : to_z w32 (of_z w32 v.2) ≡ v.2 = search rules in

@@ -8,9 +8,10 @@ use mir.Syntax.{w32}
 use mir.Val.{to_z, of_z}
 use borrow.Author.Tests.{eq-eqb, ne_eqb}
 use Rattle.coordinates.specs.Coordinates.{aligned}
+use Rattle.coordinates.proofs.is_aligned.Goals.{After-remainder_by-z}
 use Rattle.coordinates.proofs.is_aligned.Goals as goal
 
-module _ (c : goal.After-remainder_by-z) where
+module _ (c : After-remainder_by-z) where
   abbrev x : ℕ
   x = c.remainder_by-x.result
 
@@ -31,10 +32,10 @@ module _ (c : goal.After-remainder_by-z) where
       cc
 
 pub returns-then-x-ne0 : goal.returns-then-x-ne0
-returns-then-x-ne0 c = sym (tests c ∙ rw (ne_eqb (x c) 0 c.if-x-ne0.true))
+returns-then-x-ne0 c = sym (tests (goal.at.returns-then-x-ne0 c).After-remainder_by-z ∙ rw (ne_eqb (x (goal.at.returns-then-x-ne0 c).After-remainder_by-z) 0 c.if-x-ne0.true))
 
 pub returns-then-y-ne0 : goal.returns-then-y-ne0
-returns-then-y-ne0 c = sym (tests c ∙ rw (eq-eqb (x c) 0 c.if-x-ne0.false, ne_eqb (y c) 0 c.if-y-ne0.true))
+returns-then-y-ne0 c = sym (tests (goal.at.returns-then-y-ne0 c).After-remainder_by-z ∙ rw (eq-eqb (x (goal.at.returns-then-y-ne0 c).After-remainder_by-z) 0 c.if-x-ne0.false, ne_eqb (y (goal.at.returns-then-y-ne0 c).After-remainder_by-z) 0 c.if-y-ne0.true))
 
 pub returns : goal.returns
-returns c = sym (tests c ∙ rw (eq-eqb (x c) 0 c.if-x-ne0.false, eq-eqb (y c) 0 c.if-y-ne0.false))
+returns c = sym (tests (goal.at.returns c).After-remainder_by-z ∙ rw (eq-eqb (x (goal.at.returns c).After-remainder_by-z) 0 c.if-x-ne0.false, eq-eqb (y (goal.at.returns c).After-remainder_by-z) 0 c.if-y-ne0.false))

@@ -7,9 +7,10 @@ use mir.Val.{to_z, of_z}
 use Rattle.coordinates.specs.Coordinates.{global_of, local_of, remainder}
 use Rattle.coordinates.specs.declared.GlobalCoord.{GlobalCoord}
 use Rattle.coordinates.proofs.Laws.{aligned-axes, child-aligned, digits-below}
+use Rattle.coordinates.proofs.offset_to_global_coord.Goals.{Start}
 use Rattle.coordinates.proofs.offset_to_global_coord.Goals as goal
 
-module _ (a : goal.Start) where
+module _ (a : Start) where
   below : ((local_of a.args.side a.args.p).0 < a.args.side) × ((local_of a.args.side a.args.p).1 < a.args.side) × ((local_of a.args.side a.args.p).2 < a.args.side)
   below = digits-below a.args.side a.args.p a.requires.1
 
@@ -21,17 +22,17 @@ module _ (a : goal.Start) where
 pub axis_coord-x-requires : goal.axis_coord-x-requires
 axis_coord-x-requires c =
     let e : to_z w32 (of_z w32 c.args.origin.0) ≡ c.args.origin.0 = search rules in
-    (c.requires.0, rw c.offset_to_local_coord-l.ensures (below c).0, rw e (multiples c).0)
+    (c.requires.0, rw c.offset_to_local_coord-l.ensures (below (goal.at.axis_coord-x-requires c).Start).0, rw e (multiples (goal.at.axis_coord-x-requires c).Start).0)
 
 pub axis_coord-y-requires : goal.axis_coord-y-requires
 axis_coord-y-requires c =
     let e : to_z w32 (of_z w32 c.args.origin.1) ≡ c.args.origin.1 = search rules in
-    (c.requires.0, rw c.offset_to_local_coord-l.ensures (below c).1, rw e (multiples c).1)
+    (c.requires.0, rw c.offset_to_local_coord-l.ensures (below (goal.at.axis_coord-y-requires c).Start).1, rw e (multiples (goal.at.axis_coord-y-requires c).Start).1)
 
 pub axis_coord-z-requires : goal.axis_coord-z-requires
 axis_coord-z-requires c =
     let e : to_z w32 (of_z w32 c.args.origin.2) ≡ c.args.origin.2 = search rules in
-    (c.requires.0, rw c.offset_to_local_coord-l.ensures (below c).2, rw e (multiples c).2)
+    (c.requires.0, rw c.offset_to_local_coord-l.ensures (below (goal.at.axis_coord-z-requires c).Start).2, rw e (multiples (goal.at.axis_coord-z-requires c).Start).2)
 
 -- each signed number is read back from its bits
 pub returns : goal.returns

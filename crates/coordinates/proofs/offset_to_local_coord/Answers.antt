@@ -1,5 +1,4 @@
 -- `coordinates::offset_to_local_coord` meets its contract: dividing by the side twice is dividing by the side's square.
-use borrow.Author.Rules.{rules}
 use native.Mathlib.Nat.{div-div-eq-div-mul}
 use Rattle.coordinates.specs.Coordinates.{local_of}
 use Rattle.coordinates.proofs.offset_to_local_coord.Goals as goal

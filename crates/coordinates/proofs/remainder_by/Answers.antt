@@ -1,6 +1,5 @@
 -- `coordinates::remainder_by` meets its contract: the machine reads v back from its bits and adds 2147483648, which gives a natural
 -- number k below 4294967296 with the same remainder.
-use borrow.Author.Rules.{rules}
 use mathlib.Core.Path.{◌≡◌, ap, sym, ◌∙◌}
 use native.Mathlib.Omega.{arith}
 use lib.IntN.{ℤ, pos, ◌+ℤ◌}
@@ -8,12 +7,13 @@ use mir.Syntax.{w64}
 use mir.Val.{SFits, to_z, of_z}
 use mir.Facts.{to_z-of_z, to_z_pos, sfits_widen}
 use Rattle.coordinates.proofs.Axis.{lifted-in, remainder-lifted}
+use Rattle.coordinates.proofs.remainder_by.Goals.{Start}
 use Rattle.coordinates.proofs.remainder_by.Goals as goal
 
-wide : (c : goal.Start) → SFits w64 c.args.v
+wide : (c : Start) → SFits w64 c.args.v
 wide c = sfits_widen tt c.ranges.v
 
-sum : (c : goal.Start) → to_z w64 (of_z w64 c.args.v) +ℤ pos 2147483648 ≡ pos (lifted-in c.args.v c.ranges.v).0
+sum : (c : Start) → to_z w64 (of_z w64 c.args.v) +ℤ pos 2147483648 ≡ pos (lifted-in c.args.v c.ranges.v).0
 sum c = ap (λ (z : ℤ). z +ℤ pos 2147483648) (to_z-of_z (wide c)) ∙ (lifted-in c.args.v c.ranges.v).2
 
 pub overflow_cast-result : goal.overflow_cast-result

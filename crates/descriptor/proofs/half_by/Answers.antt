@@ -1,5 +1,4 @@
 -- Each kind of value is one case of the definition.
-use borrow.Author.Rules.{rules}
 use Rattle.descriptor.specs.Descriptor.{half_by}
 use Rattle.descriptor.proofs.half_by.Goals as goal
 

@@ -1,5 +1,4 @@
 -- There is no entry, or the entry's value tells.
-use borrow.Author.Rules.{rules}
 use Rattle.descriptor.specs.Descriptor.{half_entry}
 use Rattle.descriptor.proofs.half_of.Goals as goal
 

@@ -1,5 +1,4 @@
 -- Names, positions, flags and metadata, one after the other; each way out is the definition up to the field that fails.
-use borrow.Author.Rules.{rules}
 use Rattle.metadata.specs.Inner.{says_metadata}
 use Rattle.fields.proofs.Steps.{then_by, steps}
 use Rattle.descriptor.specs.Descriptor.{descriptor}
@@ -26,4 +25,4 @@ returns-in-Past-read_half c = search (steps, then_by says_names, then_by says_po
 
 pub returns-in-Got-read_half : goal.returns-in-Got-read_half
 unfolding descriptor
-returns-in-Got-read_half c = rw (c.half_of_lem.ensures, c.tree_kind-kind.ensures, c.bytes_of.ensures) (search (steps, then_by says_names, then_by says_positions, then_by says_number, then_by says_metadata) depth 9)
+returns-in-Got-read_half c = rw (c.half_of-half.ensures, c.tree_kind-kind.ensures, c.bytes_of.ensures) (search (steps, then_by says_names, then_by says_positions, then_by says_number, then_by says_metadata) depth 9)

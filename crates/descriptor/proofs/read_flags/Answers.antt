@@ -1,5 +1,4 @@
 -- Before version 222 nothing is read; from 222 on the flags are read, and then comes check 7.
-use borrow.Author.Rules.{rules}
 use Rattle.fields.specs.Says.{says_u32}
 use Rattle.fields.proofs.Steps.{then_by, steps}
 use Rattle.descriptor.specs.Descriptor.{flags_field}

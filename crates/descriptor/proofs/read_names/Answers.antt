@@ -1,5 +1,4 @@
 -- Three strings, one after the other; the first that is not whole ends the reading.
-use borrow.Author.Rules.{rules}
 use Rattle.fields.specs.Says.{says_span}
 use Rattle.fields.proofs.Steps.{then_by, steps}
 use Rattle.descriptor.specs.Descriptor.{names_field}

@@ -1,5 +1,4 @@
 -- The number is read, and then check 9 compares it with the file's length.
-use borrow.Author.Rules.{rules}
 use Rattle.fields.specs.Inner.{says_u64}
 use Rattle.fields.proofs.Steps.{then_by, steps}
 use Rattle.descriptor.specs.Descriptor.{position_field}

@@ -1,5 +1,4 @@
 -- Three positions, one after the other; the first that is refused ends the reading.
-use borrow.Author.Rules.{rules}
 use Rattle.fields.proofs.Steps.{then_by, steps}
 use Rattle.descriptor.specs.Descriptor.{positions_field}
 use Rattle.descriptor.specs.Inner.{says_position}

@@ -1,5 +1,4 @@
 -- The name is compared with the two that stand for a tree of floats, one after the other.
-use borrow.Author.Rules.{rules}
 use Rattle.fields.specs.Parse.{when}
 use Rattle.fields.proofs.Laws.{is_true, is_false}
 use Rattle.descriptor.specs.Descriptor.{tree_kind}

@@ -1,19 +1,19 @@
 -- A full word is copied; in another the inactive values come first, and the stored ones over them.
-use borrow.Author.Rules.{rules}
 use Prim.Native.Nat.{◌+◌, ◌≤◌}
 use native.Mathlib.Omega.{arith}
 use Rattle.batch.specs.Inner.{InFile}
 use Rattle.expand.proofs.Laws.{in-file, number_behind, both, full-in-file, number-full, copied}
 use Rattle.expand.proofs.fill_word.Goals as goal
+use Rattle.expand.proofs.fill_word.Goals.{After-stored_word-ones, Then-ones}
 
-inside : (c : goal.After-stored_word-ones) → c.args.p + 64 ≤ 512
+inside : (c : After-stored_word-ones) → c.args.p + 64 ≤ 512
 inside c = omega (arith, c.requires.1, c.requires.2)
 
-copies : (c : goal.Then-ones) → let a = c.args in InFile a.s.now a.c a.v.start a.k 64
-copies c = full-in-file c.requires.0 (inside c) c.requires.3 c.stored_word-ones.ensures c.if-ones.true
+copies : (c : Then-ones) → let a = c.args in InFile a.s.now a.c a.v.start a.k 64
+copies c = full-in-file c.requires.0 (omega (arith, c.requires.1, c.requires.2)) c.requires.3 c.stored_word-ones.ensures c.if-ones.true
 
 pub fill_values-requires : goal.fill_values-requires
-fill_values-requires c = (copies (c), omega (arith, c.requires.4))
+fill_values-requires c = (copies (goal.at.fill_values-requires c).Then-ones, omega (arith, c.requires.4))
 
 pub overflow_add-result : goal.overflow_add-result
 overflow_add-result c = omega (arith, (copies (goal.at.overflow_add-result c).Then-ones).few)

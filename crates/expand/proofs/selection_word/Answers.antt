@@ -1,5 +1,4 @@
 -- The bits of the mask, or none.
-use borrow.Author.Rules.{rules}
 use native.Mathlib.Omega.{arith}
 use Rattle.expand.proofs.Laws.{at-word, no_word}
 use Rattle.expand.proofs.selection_word.Goals as goal

@@ -1,5 +1,4 @@
 -- All bits, those of the value mask, or those that a child mask lacks.
-use borrow.Author.Rules.{rules}
 use native.Mathlib.Omega.{arith}
 use Rattle.expand.proofs.Laws.{every-word, active-word, childless-word}
 use Rattle.expand.proofs.stored_word.Goals as goal

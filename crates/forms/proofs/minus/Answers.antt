@@ -1,5 +1,4 @@
 -- The top bit is put in, or taken out.
-use borrow.Author.Rules.{rules}
 use Rattle.fields.proofs.Steps.{steps}
 use Rattle.forms.specs.Forms.{minus}
 use Rattle.forms.proofs.minus.Goals as goal

@@ -1,5 +1,4 @@
 -- The value is carried, or what stands for it is.
-use borrow.Author.Rules.{rules}
 use mathlib.Core.Path.{ap, ◌∙◌}
 use Prim.Native.Nat.{ℕ}
 use Rattle.forms.specs.Forms.{inactive_field}

@@ -1,5 +1,4 @@
 -- No byte under 222; a byte that is there selects, one that is not is check 2.
-use borrow.Author.Rules.{rules}
 use Rattle.fields.specs.Inner.{says_u8}
 use Rattle.fields.proofs.Steps.{steps, then_by}
 use Rattle.forms.specs.Forms.{form_field}

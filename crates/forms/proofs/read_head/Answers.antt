@@ -1,5 +1,4 @@
 -- Each way out is the fields up to it, as the calls found them: the form, and what it brings.
-use borrow.Author.Rules.{rules}
 use Rattle.fields.proofs.Steps.{steps, then_by}
 use Rattle.forms.specs.Forms.{head_field}
 use Rattle.forms.specs.Inner.{says_form, says_inactives}

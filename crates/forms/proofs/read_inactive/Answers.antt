@@ -1,5 +1,4 @@
 -- The value is carried, or it is zero.
-use borrow.Author.Rules.{rules}
 use native.Mathlib.Omega.{arith}
 use Rattle.fields.proofs.Steps.{steps}
 use Rattle.half.proofs.Laws.{stored-single}

@@ -1,5 +1,4 @@
 -- Each way out is the fields up to it, as the calls found them: the first value, the second, the selection mask.
-use borrow.Author.Rules.{rules}
 use Rattle.fields.specs.Says.{says_u32}
 use Rattle.fields.proofs.Steps.{steps, then_by}
 use Rattle.forms.specs.Forms.{inactives_field}

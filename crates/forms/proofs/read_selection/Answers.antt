@@ -1,5 +1,4 @@
 -- The mask is carried, or there is none.
-use borrow.Author.Rules.{rules}
 use Rattle.fields.specs.Says.{says_span}
 use Rattle.fields.proofs.Steps.{steps, then_by}
 use Rattle.forms.specs.Forms.{selection_field}

@@ -1,5 +1,4 @@
 -- The value is whole, or it runs past the end.
-use borrow.Author.Rules.{rules}
 use native.Mathlib.Omega.{arith}
 use Rattle.fields.proofs.Laws.{field-whole, field_past}
 use Rattle.forms.proofs.read_value.Goals as goal

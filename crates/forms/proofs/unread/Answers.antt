@@ -1,5 +1,4 @@
 -- Minus the background, or the background.
-use borrow.Author.Rules.{rules}
 use Rattle.fields.proofs.Steps.{steps}
 use Rattle.forms.proofs.unread.Goals as goal
 

@@ -1,16 +1,15 @@
-use borrow.Author.Rules.{rules}
-use borrow.Author.Tests.{not-true, not-false}
-use mathlib.Core.Logic.{⊎_elim}
+-- Each step is one law of `are_normal`, by what is known of the next half.
 use mathlib.Core.Path.{◌≡◌, sym, ap, ◌∙◌}
-use Prim.Native.Nat.{◌+◌, ◌-◌, ◌*◌, ◌≤◌}
+use Prim.Native.Nat.{◌+◌, ◌*◌}
 use native.Mathlib.Omega.{arith}
 use Rattle.fields.specs.Le.{u16_at}
-use Rattle.half.specs.Inner.{is_normal, are_normal}
+use Rattle.half.specs.Inner.{is_normal}
 use Rattle.half.proofs.Laws.{normal-none, normal-next}
 use Rattle.half.proofs.are_normal.Goals as goal
+use Rattle.half.proofs.are_normal.Goals.{After-is_normal, then-not-is_normal, else-not-is_normal}
 
 -- what is known of the next half
-next : (c : goal.After-is_normal) → let a = c.args in c.is_normal.result ≡ is_normal (u16_at a.s.now (a.at + c.loop-k.k * 2))
+next : (c : After-is_normal) → let a = c.args in c.is_normal.result ≡ is_normal (u16_at a.s.now (a.at + c.loop-k.k * 2))
 next c = c.is_normal.ensures ∙ ap is_normal c.u16_at.ensures.0
 
 pub loop-k-init : goal.loop-k-init
@@ -33,12 +32,12 @@ loop-k-smaller c = omega arith
 
 pub loop-k-preserved : goal.loop-k-preserved
 loop-k-preserved c =
-    let l = c.loop-k in (
-      omega (arith, c.loop-k-test.true),
-      ⊎_elim
-          (λ w. w.1 ∙ normal-next _ _ _ (sym (not-true _ w.0.taken) ∙ next (goal.at.loop-k-preserved c).After-is_normal) l.invariant.1)
-          (λ w. w.1 ∙ normal-next _ _ _ (sym (not-false _ w.0.left) ∙ next (goal.at.loop-k-preserved c).After-is_normal) l.invariant.1)
-          c.if-not-is_normal.branch,
+    let n = next (goal.at.loop-k-preserved c).After-is_normal in (
+      omega arith,
+      elim c.if-not-is_normal.branch [
+        | then-not-is_normal w ↦ w.all-is ∙ normal-next _ _ _ (sym w.if-not-is_normal.true ∙ n) c.loop-k.invariant.1
+        | else-not-is_normal w ↦ w.all-is ∙ normal-next _ _ _ (sym w.if-not-is_normal.false ∙ n) c.loop-k.invariant.1
+      ],
     )
 
 pub returns : goal.returns

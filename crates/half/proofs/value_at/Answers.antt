@@ -1,5 +1,4 @@
 -- The two widths.
-use borrow.Author.Rules.{rules}
 use mathlib.Core.Path.{ap, ◌∙◌}
 use native.Mathlib.Omega.{arith}
 use Rattle.half.specs.Half.{widened}

@@ -1,5 +1,4 @@
 -- By the difference a half is normal, or its exponent is 0 or 31.
-use borrow.Author.Rules.{rules}
 use Rattle.half.proofs.Laws.{above-normal, above_other}
 use Rattle.half.proofs.widen.Goals as goal
 

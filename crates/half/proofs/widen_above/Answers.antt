@@ -1,5 +1,4 @@
 -- All that is above the smallest normal half moves up in one.
-use borrow.Author.Rules.{rules}
 use native.Mathlib.Omega.{arith}
 use Rattle.half.proofs.Laws.{widened-above}
 use Rattle.half.proofs.widen_above.Goals as goal

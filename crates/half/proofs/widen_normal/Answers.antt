@@ -1,5 +1,4 @@
 -- A normal half is not below the smallest one.
-use borrow.Author.Rules.{rules}
 use mathlib.Core.Path.{refl}
 use native.Mathlib.Omega.{arith}
 use Rattle.half.proofs.Laws.{normal-exponent}

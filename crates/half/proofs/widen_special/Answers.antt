@@ -1,5 +1,4 @@
 -- Each way out is one law: an infinity, a NaN without its quiet bit and one with it.
-use borrow.Author.Rules.{rules}
 use borrow.Author.Tests.{lt-ltb, le-ltb}
 use native.Mathlib.Omega.{arith}
 use Rattle.half.proofs.Laws.{widened-infinity, widened-nan}

@@ -1,5 +1,4 @@
 -- A fraction of 0 is the sign alone; any other is worked out from the position of its highest one.
-use borrow.Author.Rules.{rules}
 use mathlib.Core.Path.{◌≡◌}
 use Prim.Native.Nat.{◌-◌, ◌≤◌}
 use native.Mathlib.Omega.{arith}
@@ -7,8 +6,9 @@ use lib.Count.{count_leading_zeros}
 use Rattle.half.specs.Half.{fraction, widened}
 use Rattle.half.proofs.Laws.{worked_out, worked-out, widened-subnormal, widened-zero}
 use Rattle.half.proofs.widen_subnormal.Goals as goal
+use Rattle.half.proofs.widen_subnormal.Goals.{Else-t-eq0}
 
-worked : (c : goal.Else-t-eq0) → let t = fraction c.args.h in let z = count_leading_zeros 32 t in (22 ≤ z) × (z ≤ 31) × (worked_out (31 - z) t ≡ widened t)
+worked : (c : Else-t-eq0) → let t = fraction c.args.h in let z = count_leading_zeros 32 t in (22 ≤ z) × (z ≤ 31) × (worked_out (31 - z) t ≡ widened t)
 worked c = worked-out _ (omega (arith, c.if-t-eq0.false)) (omega arith)
 
 pub returns-then-t-eq0 : goal.returns-then-t-eq0

@@ -1,5 +1,4 @@
 -- The number is read, and then check 8 says that it is at most 64.
-use borrow.Author.Rules.{rules}
 use Rattle.fields.specs.Says.{says_u32}
 use Rattle.fields.proofs.Steps.{then_by, steps}
 use Rattle.header.specs.Header.{count_field}

@@ -1,5 +1,4 @@
 -- The file's first eight bytes, the version and the library's two numbers, one after the other; the last call reads the rest.
-use borrow.Author.Rules.{rules}
 use Rattle.fields.specs.Says.{says_u32}
 use Rattle.fields.proofs.Steps.{then_by, steps}
 use Rattle.header.specs.Header.{front_field}

@@ -1,5 +1,4 @@
 -- The offsets byte, then the packed byte; what was read before them goes into the answer as it is.
-use borrow.Author.Rules.{rules}
 use Rattle.fields.proofs.Steps.{then_by, steps}
 use Rattle.header.specs.Inner.{says_number, says_packed}
 use Rattle.header.proofs.read_front_end.Goals as goal

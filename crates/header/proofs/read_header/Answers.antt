@@ -1,5 +1,4 @@
 -- Check 1, then the fields in their order. Of the metadata only the end is used, whatever name is looked for.
-use borrow.Author.Rules.{rules}
 use Rattle.fields.specs.Says.{says_span}
 use Rattle.fields.proofs.Steps.{then_by, steps}
 use Rattle.metadata.proofs.Laws.{metadata-by}

@@ -1,5 +1,4 @@
 -- Eight bytes are read, and then check 3 compares them.
-use borrow.Author.Rules.{rules}
 use Rattle.fields.specs.Says.{says_span}
 use Rattle.fields.proofs.Steps.{then_by, steps}
 use Rattle.header.specs.Header.{magic_field}

@@ -1,5 +1,4 @@
 -- The byte is read, and then check 5 says that it is 1.
-use borrow.Author.Rules.{rules}
 use Rattle.fields.specs.Inner.{says_u8}
 use Rattle.fields.proofs.Steps.{then_by, steps}
 use Rattle.header.specs.Header.{offsets_field}
@@ -7,11 +6,7 @@ use Rattle.header.proofs.read_offsets.Goals as goal
 
 pub returns-then-b-ne1 : goal.returns-then-b-ne1
 unfolding offsets_field
-returns-then-b-ne1 c = search rules
-
-pub overflow_cast-result : goal.overflow_cast-result
-unfolding offsets_field
-overflow_cast-result c = search (steps, then_by says_u8)
+returns-then-b-ne1 c = search (steps, then_by says_u8)
 
 pub returns-in-Past : goal.returns-in-Past
 unfolding offsets_field

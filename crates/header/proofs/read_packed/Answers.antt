@@ -1,5 +1,4 @@
 -- From version 222 on nothing is read; before it one byte is.
-use borrow.Author.Rules.{rules}
 use Rattle.fields.specs.Inner.{says_u8}
 use Rattle.fields.proofs.Steps.{then_by, steps}
 use Rattle.header.specs.Header.{packed_field}

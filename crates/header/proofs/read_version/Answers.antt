@@ -1,5 +1,4 @@
 -- The number is read, and then the two tests are the two ends of check 4's range.
-use borrow.Author.Rules.{rules}
 use Rattle.fields.specs.Says.{says_u32}
 use Rattle.fields.proofs.Steps.{then_by, steps}
 use Rattle.header.proofs.Laws.{ranges}

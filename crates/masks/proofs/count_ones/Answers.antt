@@ -1,15 +1,16 @@
 use borrow.Author.Rules.{rules}
 use native.Mathlib.Omega.{arith}
 use mathlib.Core.Path.{◌≡◌, refl, sym, ap}
-use Prim.Native.Nat.{◌≤◌, ◌+◌, ◌-◌, ◌*◌, ◌%◌}
+use Prim.Native.Nat.{◌+◌, ◌*◌}
 use lib.ListN.{length}
 use lib.Count.{ones}
 use Rattle.masks.specs.Masks.{mask_bit, count_below}
 use Rattle.masks.proofs.Laws.{ones_none, count-le}
 use Rattle.masks.proofs.Words.{count-on, whole}
+use Rattle.masks.proofs.count_ones.Goals.{After-word}
 use Rattle.masks.proofs.count_ones.Goals as goal
 
-counted : (c : goal.After-word) → c.loop-i.count + ones c.word.result
+counted : (c : After-word) → c.loop-i.count + ones c.word.result
     ≡ count_below (mask_bit c.args.s.now c.args.at) (8 * (c.loop-i.i + 8))
 counted c =
     let a = c.args in

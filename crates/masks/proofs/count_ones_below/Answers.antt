@@ -1,5 +1,4 @@
 -- The whole words and the part of the place's own word make the places below it.
-use borrow.Author.Rules.{rules}
 use native.Mathlib.Omega.{arith}
 use mathlib.Core.Path.{◌≡◌}
 use Prim.Native.Nat.{◌+◌, ◌*◌, ◌/◌, ◌%◌}
@@ -7,10 +6,11 @@ use lib.Count.{ones}
 use Rattle.masks.specs.Masks.{mask_bit, count_below}
 use Rattle.masks.proofs.Laws.{count-le}
 use Rattle.masks.proofs.Words.{count-on}
+use Rattle.masks.proofs.count_ones_below.Goals.{After-low_bits}
 use Rattle.masks.proofs.count_ones_below.Goals as goal
 
 counted :
-    (c : goal.After-low_bits) → let a = c.args in
+    (c : After-low_bits) → let a = c.args in
     c.count_ones-whole.result + ones c.low_bits.result ≡ count_below (mask_bit a.s.now a.at) a.p.0
 counted c =
     let a = c.args in

@@ -1,5 +1,4 @@
 -- Each place is a one or a zero.
-use borrow.Author.Rules.{rules}
 use native.Mathlib.Omega.{arith}
 use Prim.Native.Nat.{◌*◌}
 use Rattle.masks.specs.Masks.{mask_bit}

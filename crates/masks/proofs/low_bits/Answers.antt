@@ -1,5 +1,4 @@
 -- 1 shifted by less than 64 loses nothing.
-use borrow.Author.Rules.{rules}
 use native.Mathlib.Omega.{arith}
 use native.Mathlib.Nat.{one-mul}
 use mathlib.Core.Path.{◌≡◌, ◌∙◌}

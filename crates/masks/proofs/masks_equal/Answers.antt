@@ -1,8 +1,8 @@
 use borrow.Author.Rules.{rules}
 use native.Mathlib.Omega.{arith}
 use mathlib.Core.Path.{◌≡◌, refl, sym, ap}
-use Prim.Native.Nat.{◌≤◌, ◌+◌, ◌-◌, ◌*◌, ◌%◌}
-use Rattle.masks.specs.Masks.{mask_bit, agree, is_nil}
+use Prim.Native.Nat.{◌+◌, ◌*◌}
+use Rattle.masks.specs.Masks.{mask_bit, is_nil}
 use Rattle.masks.proofs.Laws.{ones_none}
 use Rattle.masks.proofs.Words.{agree_on}
 use Rattle.masks.proofs.masks_equal.Goals as goal

@@ -1,11 +1,7 @@
 -- Whether the masks agree below the place reached.
-use borrow.Author.Rules.{rules}
-use native.Mathlib.Omega.{arith}
-use mathlib.Core.Path.{◌≡◌, refl, sym, ap}
-use Prim.Native.Nat.{◌≤◌, ◌+◌, ◌-◌, ◌*◌, ◌%◌}
-use Rattle.masks.specs.Masks.{mask_bit, agree, is_nil}
-use Rattle.masks.proofs.Laws.{ones_none}
-use Rattle.masks.proofs.Words.{agree_on}
+use mathlib.Core.Path.{◌≡◌}
+use Prim.Native.Nat.{◌≤◌, ◌-◌, ◌*◌, ◌%◌}
+use Rattle.masks.specs.Masks.{mask_bit, agree}
 use Rattle.masks.proofs.masks_equal.Given as goal
 
 abbrev pub invariant-loop-i : goal.invariant-loop-i

@@ -1,9 +1,9 @@
 use borrow.Author.Rules.{rules}
 use native.Mathlib.Omega.{arith}
 use mathlib.Core.Path.{◌≡◌, refl, sym, ap}
-use mathlib.Core.Bool.{false, not}
-use Prim.Native.Nat.{◌≤◌, ◌+◌, ◌-◌, ◌*◌, ◌%◌}
-use Rattle.masks.specs.Masks.{mask_bit, overlap, is_nil}
+use mathlib.Core.Bool.{not}
+use Prim.Native.Nat.{◌+◌, ◌*◌}
+use Rattle.masks.specs.Masks.{mask_bit, is_nil}
 use Rattle.masks.proofs.Laws.{ones_none}
 use Rattle.masks.proofs.Words.{overlap-on, overlap-here}
 use Rattle.masks.proofs.masks_overlap.Goals as goal

@@ -1,12 +1,8 @@
 -- No place below the place reached is a one of both.
-use borrow.Author.Rules.{rules}
-use native.Mathlib.Omega.{arith}
-use mathlib.Core.Path.{◌≡◌, refl, sym, ap}
-use mathlib.Core.Bool.{false, not}
-use Prim.Native.Nat.{◌≤◌, ◌+◌, ◌-◌, ◌*◌, ◌%◌}
-use Rattle.masks.specs.Masks.{mask_bit, overlap, is_nil}
-use Rattle.masks.proofs.Laws.{ones_none}
-use Rattle.masks.proofs.Words.{overlap-on, overlap-here}
+use mathlib.Core.Path.{◌≡◌}
+use mathlib.Core.Bool.{false}
+use Prim.Native.Nat.{◌≤◌, ◌-◌, ◌*◌, ◌%◌}
+use Rattle.masks.specs.Masks.{mask_bit, overlap}
 use Rattle.masks.proofs.masks_overlap.Given as goal
 
 abbrev pub invariant-loop-i : goal.invariant-loop-i

@@ -1,11 +1,9 @@
-use borrow.Author.Rules.{rules}
 use native.Mathlib.Omega.{arith}
 use mathlib.Core.Path.{◌≡◌, sym, ◌∙◌}
-use Prim.Native.Nat.{◌≤◌, ◌+◌, ◌-◌, ◌*◌, ◌%◌}
+use Prim.Native.Nat.{◌+◌, ◌*◌}
 use native.Mathlib.Nat.{add-zero}
 use lib.Count.{trailing_le}
 use Rattle.masks.specs.Masks.{mask_bit}
-use Rattle.masks.specs.Inner.{next_one}
 use Rattle.masks.proofs.Laws.{next-end}
 use Rattle.masks.proofs.Words.{next-in-word, next-past-word}
 use Rattle.masks.proofs.next_in_words.Goals as goal

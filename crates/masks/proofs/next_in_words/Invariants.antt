@@ -1,14 +1,8 @@
 -- What is next from the place reached is the whole answer.
-use borrow.Author.Rules.{rules}
-use native.Mathlib.Omega.{arith}
-use mathlib.Core.Path.{◌≡◌, sym, ◌∙◌}
-use Prim.Native.Nat.{◌≤◌, ◌+◌, ◌-◌, ◌*◌, ◌%◌}
-use native.Mathlib.Nat.{add-zero}
-use lib.Count.{trailing_le}
+use mathlib.Core.Path.{◌≡◌}
+use Prim.Native.Nat.{◌≤◌, ◌-◌, ◌*◌, ◌%◌}
 use Rattle.masks.specs.Masks.{mask_bit}
 use Rattle.masks.specs.Inner.{next_one}
-use Rattle.masks.proofs.Laws.{next-end}
-use Rattle.masks.proofs.Words.{next-in-word, next-past-word}
 use Rattle.masks.proofs.next_in_words.Given as goal
 
 abbrev pub invariant-loop-i : goal.invariant-loop-i

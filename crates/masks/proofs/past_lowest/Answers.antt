@@ -1,5 +1,4 @@
 -- A word and the number one below it have in common the word's ones above its lowest.
-use borrow.Author.Rules.{rules}
 use Prim.Native.Nat.{◌-◌}
 use native.Mathlib.Numerals.{add-one}
 use native.Mathlib.Omega.{arith}

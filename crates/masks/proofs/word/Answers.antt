@@ -1,5 +1,4 @@
 -- The bits of a word, each byte of the slice being below 256.
-use borrow.Author.Rules.{rules}
 use Rattle.masks.proofs.Words.{is_word}
 use Rattle.masks.proofs.word.Goals as goal
 

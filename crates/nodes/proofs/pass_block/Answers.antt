@@ -1,5 +1,4 @@
 -- The block's two parts, as the calls found them. The count given is the topology's mask's, and so the block's.
-use borrow.Author.Rules.{rules}
 use mathlib.Core.Path.{sym, ◌∙◌}
 use Rattle.fields.specs.Inner.{end_of, says_end}
 use Rattle.fields.proofs.Laws.{then-fails, told}

@@ -1,5 +1,4 @@
 -- The block's two parts, as the calls found them.
-use borrow.Author.Rules.{rules}
 use mathlib.Core.Path.{refl}
 use Rattle.fields.proofs.Laws.{then-got, then-fails, told}
 use Rattle.runs.specs.Inner.{says_values}

@@ -1,6 +1,4 @@
 -- Each way out is the fields and checks up to it, as the calls found them: the mask, check 20, what stands there under 222.
-use borrow.Author.Rules.{rules}
-use borrow.Author.Tests.{not-true, not-false}
 use mathlib.Core.Path.{refl}
 use lib.Dec.{lit≤}
 use Rattle.fields.specs.Parse.{then, check}
@@ -21,8 +19,8 @@ masks_equal-requires c = let block = whole-mask _ _ 64 refl (lit≤ tt) (told sa
 
 pub returns-then-not-masks_equal : goal.returns-then-not-masks_equal
 unfolding block_head then check
-returns-then-not-masks_equal c = rw (← c.read_bytes.ensures, c.in-Got.is, ← c.masks_equal.ensures, not-true c.masks_equal.result c.if-not-masks_equal.true)
+returns-then-not-masks_equal c = rw (← c.read_bytes.ensures, c.in-Got.is, ← c.masks_equal.ensures, c.if-not-masks_equal.true)
 
 pub returns : goal.returns
 unfolding block_head then check
-returns c = rw (← c.read_bytes.ensures, c.in-Got.is, ← c.masks_equal.ensures, not-false c.masks_equal.result c.if-not-masks_equal.false) c.read_old.ensures
+returns c = rw (← c.read_bytes.ensures, c.in-Got.is, ← c.masks_equal.ensures, c.if-not-masks_equal.false) c.read_old.ensures

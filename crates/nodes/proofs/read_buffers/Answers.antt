@@ -1,5 +1,4 @@
 -- One buffer, another number of them, or no byte.
-use borrow.Author.Rules.{rules}
 use Rattle.fields.specs.Inner.{says_u8}
 use Rattle.fields.proofs.Steps.{steps, then_by}
 use Rattle.nodes.specs.Nodes.{leaf_buffers_field}

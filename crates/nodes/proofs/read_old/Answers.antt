@@ -1,5 +1,4 @@
 -- From 222 on nothing stands there; else the origin is read and compared, and the count of buffers follows.
-use borrow.Author.Rules.{rules}
 use borrow.Author.Tests.{lt-ltb}
 use Rattle.fields.specs.Parse.{then, when, check}
 use Rattle.fields.specs.Says.{says_i_vec3}

@@ -1,13 +1,9 @@
 -- The invariant: whether the origin is among those from here on is the whole answer. The loop ends because fewer are left.
-use borrow.Author.Rules.{rules}
-use Rattle.roots.proofs.Laws.{among-here, among_later, among_none}
 use Rattle.roots.specs.Roots.{is_among}
-use Rattle.fields.proofs.Laws.{is_true, is_false}
 use lib.Seq.{slice}
 use lib.ListN.{take}
 use Prim.Native.Nat.{◌≤◌, ◌-◌}
-use mathlib.Core.Path.{◌≡◌, refl, ◌∙◌}
-use native.Mathlib.Omega.{arith}
+use mathlib.Core.Path.{◌≡◌}
 use Rattle.roots.proofs.is_among.Given as goal
 
 abbrev pub invariant-loop-k : goal.invariant-loop-k

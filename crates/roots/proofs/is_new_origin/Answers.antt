@@ -1,14 +1,13 @@
 -- The first test is the first part of the definition; where it holds, the answer is the second part.
-use borrow.Author.Rules.{rules}
 use mathlib.Core.Bool.{Bool, true, false, not, ◌&&◌}
 use mathlib.Core.Path.{◌≡◌, refl, ap}
 use Rattle.roots.proofs.is_new_origin.Goals as goal
 
-first : {x : Bool} (a b : Bool) → x ≡ a → not x ≡ true → false ≡ (a && b)
+first : {x : Bool} (a b : Bool) → x ≡ a → x ≡ false → false ≡ (a && b)
 first true b e f = cc
 first false b e f = refl
 
-both : {x y : Bool} (a b : Bool) → x ≡ a → not x ≡ false → y ≡ b → not y ≡ (a && not b)
+both : {x y : Bool} (a b : Bool) → x ≡ a → x ≡ true → y ≡ b → not y ≡ (a && not b)
 both true b e f g = ap not g
 both false b e f g = cc
 

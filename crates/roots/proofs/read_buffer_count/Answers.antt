@@ -1,5 +1,4 @@
 -- The number is read, and then check 15 says that it is 1.
-use borrow.Author.Rules.{rules}
 use Rattle.fields.specs.Says.{says_u32}
 use Rattle.fields.proofs.Steps.{steps, then_by}
 use Rattle.roots.specs.Roots.{buffers_field}

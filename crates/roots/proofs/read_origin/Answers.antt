@@ -1,5 +1,4 @@
 -- The three numbers are read, and then check 17 says that the origin is aligned and new.
-use borrow.Author.Rules.{rules}
 use Rattle.fields.specs.Says.{says_i_vec3}
 use Rattle.fields.proofs.Steps.{steps, then_by}
 use Rattle.roots.specs.Roots.{origin_field}

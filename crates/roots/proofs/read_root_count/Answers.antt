@@ -1,5 +1,4 @@
 -- The number is read, and then check 16 compares it with the limit.
-use borrow.Author.Rules.{rules}
 use Rattle.fields.specs.Says.{says_u32}
 use Rattle.fields.proofs.Steps.{steps, then_by}
 use Rattle.roots.specs.Roots.{root_count_field}

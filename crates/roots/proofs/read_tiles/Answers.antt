@@ -1,5 +1,4 @@
 -- Reading so many tiles of 17 bytes is passing their whole length; where there is none, nothing is read.
-use borrow.Author.Rules.{rules}
 use Rattle.fields.specs.Says.{says_span}
 use Rattle.fields.proofs.Steps.{steps, then_by, via}
 use Rattle.roots.proofs.Laws.{no-tiles, tiles-passed}

@@ -1,5 +1,4 @@
 -- Each kind of stored places has its count.
-use borrow.Author.Rules.{rules}
 use Rattle.runs.specs.Runs.{is_stored}
 use Rattle.runs.proofs.Laws.{count-every}
 use Rattle.runs.proofs.count_of.Goals as goal

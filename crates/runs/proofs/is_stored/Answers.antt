@@ -1,5 +1,4 @@
 -- Each kind of stored places has its test.
-use borrow.Author.Rules.{rules}
 use mathlib.Core.Path.{ap}
 use mathlib.Core.Bool.{not}
 use Rattle.runs.specs.Runs.{is_stored}

@@ -1,5 +1,4 @@
 -- Each kind of stored places has its number.
-use borrow.Author.Rules.{rules}
 use Rattle.runs.specs.Runs.{is_stored}
 use Rattle.runs.proofs.Laws.{count-every}
 use Rattle.runs.proofs.number_of.Goals as goal

@@ -1,5 +1,4 @@
 -- The same of which only the end is kept.
-use borrow.Author.Rules.{rules}
 use Rattle.fields.proofs.Steps.{steps, then_by, via}
 use Rattle.forms.specs.Inner.{says_head}
 use Rattle.runs.specs.Inner.{says_run}

@@ -1,5 +1,4 @@
 -- Each way out is the fields up to it, as the calls found them: what stands before the run, and the run.
-use borrow.Author.Rules.{rules}
 use Rattle.fields.proofs.Steps.{steps, then_by}
 use Rattle.forms.specs.Inner.{says_head}
 use Rattle.runs.specs.Runs.{values_field}

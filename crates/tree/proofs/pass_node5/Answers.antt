@@ -1,5 +1,4 @@
 -- The 4-nodes' masks end where the node does.
-use borrow.Author.Rules.{rules}
 use mathlib.Core.Path.{refl, ◌∙◌}
 use lib.Dec.{lit≤}
 use Rattle.fields.proofs.Laws.{told}

@@ -1,19 +1,11 @@
 -- Each 4-node that is passed leaves the end of those to come as it was.
-use borrow.Author.Rules.{rules}
-use native.Mathlib.Omega.{arith}
-use mathlib.Core.Bool.{Bool}
-use mathlib.Core.Option.{some}
-use mathlib.Core.Path.{◌≡◌, refl, sym, ◌∙◌}
-use Prim.Native.Nat.{ℕ, ◌≤◌, ◌<◌, ◌-◌}
+use Prim.Native.Nat.{◌≤◌, ◌-◌}
+use mathlib.Core.Path.{◌≡◌}
 use Rattle.fields.specs.Parse.{many}
-use Rattle.fields.proofs.Laws.{told}
+use Rattle.fields.specs.Inner.{end_of}
 use Rattle.coordinates.specs.declared.GlobalCoord.{GlobalCoord}
 use Rattle.masks.specs.Masks.{mask_bit, ones, ones_from}
-use Rattle.masks.specs.Inner.{next_one, says_next}
-use Rattle.masks.proofs.Laws.{next-lt, next-from}
-use Rattle.fields.specs.Inner.{end_of, says_end}
 use Rattle.tree.specs.Topology.{child_field}
-use Rattle.tree.proofs.Passing.{ones_none, ones-more, ones-fails}
 use Rattle.tree.proofs.pass_nodes.Given as goal
 
 abbrev pub invariant-loop-p : goal.invariant-loop-p

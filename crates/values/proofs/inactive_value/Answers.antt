@@ -1,5 +1,4 @@
 -- The second inactive value where the place is selected, else the first.
-use borrow.Author.Rules.{rules}
 use Rattle.fields.specs.Parse.{when}
 use Rattle.values.specs.Values.{is_selected, inactive_value}
 use Rattle.values.proofs.inactive_value.Goals as goal

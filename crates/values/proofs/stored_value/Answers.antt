@@ -3,9 +3,10 @@ use borrow.Author.Rules.{rules}
 use mathlib.Core.Path.{◌≡◌}
 use native.Mathlib.Omega.{arith}
 use Rattle.values.proofs.stored_value.Goals as goal
+use Rattle.values.proofs.stored_value.Goals.{Else-c-eq2}
 
 -- a width that is not 2 is 4
-wide : (c : goal.Else-c-eq2) → c.args.c.width ≡ 4
+wide : (c : Else-c-eq2) → c.args.c.width ≡ 4
 wide c = omega (arith, c.requires.0)
 
 pub overflow_add-start : goal.overflow_add-start
