@@ -1,4 +1,1 @@
-pub mod Field
-pub mod Sorts
-pub mod Lent
 pub mod Three

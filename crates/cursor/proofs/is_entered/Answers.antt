@@ -1,5 +1,4 @@
 -- Each way out is one law of the definition: the mask, the next place, the origin, in the order of the tests.
-use borrow.Author.Rules.{rules}
 use native.Mathlib.Omega.{arith}
 use Rattle.cursor.proofs.Laws.{entered-outside, entered-past, entered-aligned}
 use Rattle.cursor.proofs.is_entered.Goals as goal

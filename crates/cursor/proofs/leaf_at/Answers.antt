@@ -1,5 +1,4 @@
 -- Each way out is one law of a leaf: its mask is not whole, its block is refused, or it is the next piece.
-use borrow.Author.Rules.{rules}
 use lib.Dec.{lit≤}
 use mathlib.Core.Path.{refl}
 use Rattle.fields.specs.Says.{says_span}

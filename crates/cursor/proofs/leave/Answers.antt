@@ -1,5 +1,4 @@
 -- The node's header is refused, or it gives the piece, behind which comes what the cursor handed over says.
-use borrow.Author.Rules.{rules}
 use mathlib.Core.Path.{refl}
 use Rattle.fields.proofs.Laws.{told}
 use Rattle.nodes.specs.Inner.{says_node}

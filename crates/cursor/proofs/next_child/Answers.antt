@@ -1,6 +1,4 @@
 -- Words that are a node's have their mask in the file, which is what the search for the next one needs.
-use borrow.Author.Rules.{rules}
-use borrow.Author.Tests.{not-true, not-false}
 use mathlib.Core.Option.{some}
 use mathlib.Core.Path.{refl, sym, ap}
 use Rattle.fields.proofs.Laws.{told, is_true, is_false, when_true, when_false}
@@ -11,20 +9,20 @@ use Rattle.cursor.proofs.next_child.Goals as goal
 
 pub returns-then-not-is_entered : goal.returns-then-not-is_entered
 unfolding next_child
-returns-then-not-is_entered c = when_false _ (is_false (not-true _ c.if-not-is_entered.true) c.is_entered.ensures) refl
+returns-then-not-is_entered c = when_false _ (is_false c.if-not-is_entered.true c.is_entered.ensures) refl
 
 pub next_one-requires : goal.next_one-requires
 next_one-requires c =
     let pre = c.requires in
-    let node = entered-back _ _ _ _ (sym (is_true (not-false _ c.if-not-is_entered.false) c.is_entered.ensures)) in
+    let node = entered-back _ _ _ _ (sym (is_true c.if-not-is_entered.false c.is_entered.ensures)) in
     (record { within = node.within; words = pre.1; small = pre.2 }, node.places)
 
 pub returns-in-At : goal.returns-in-At
 unfolding next_child
 returns-in-At c =
-    when_true _ (is_true (not-false _ c.if-not-is_entered.false) c.is_entered.ensures) (ap some (told says_next c.in-At.is c.next_one.ensures))
+    when_true _ (is_true c.if-not-is_entered.false c.is_entered.ensures) (ap some (told says_next c.in-At.is c.next_one.ensures))
 
 pub returns-in-Nothing : goal.returns-in-Nothing
 unfolding next_child
 returns-in-Nothing c =
-    when_true _ (is_true (not-false _ c.if-not-is_entered.false) c.is_entered.ensures) (ap some (told says_next c.in-Nothing.is c.next_one.ensures))
+    when_true _ (is_true c.if-not-is_entered.false c.is_entered.ensures) (ap some (told says_next c.in-Nothing.is c.next_one.ensures))

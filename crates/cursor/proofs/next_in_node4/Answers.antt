@@ -1,5 +1,4 @@
 -- The words are no node's, a leaf is next, or none is left and the cursor behind the 4-node stands in its 5-node.
-use borrow.Author.Rules.{rules}
 use mathlib.Core.Path.{ap, ◌∙◌}
 use Rattle.fields.proofs.Laws.{told}
 use Rattle.cursor.specs.Inner.{rest4, says_child}

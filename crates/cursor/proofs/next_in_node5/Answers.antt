@@ -1,5 +1,4 @@
 -- The words are no node's, a 4-node is next, or none is left and the cursor behind the 5-node stands between roots.
-use borrow.Author.Rules.{rules}
 use mathlib.Core.Path.{◌∙◌}
 use Rattle.fields.proofs.Laws.{told}
 use Rattle.cursor.specs.Inner.{rest5, says_child}

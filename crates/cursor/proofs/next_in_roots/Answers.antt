@@ -1,5 +1,4 @@
 -- Each way out is one law of the roots that are left: none, an origin that is not whole, a header that is refused, a root.
-use borrow.Author.Rules.{rules}
 use mathlib.Core.Path.{◌∙◌}
 use native.Mathlib.Omega.{arith}
 use Rattle.fields.specs.Says.{says_i_vec3}

@@ -1,5 +1,4 @@
 -- What is to come is defined by the same two tests of the depth.
-use borrow.Author.Rules.{rules}
 use borrow.Author.Tests.{eq-eqb, ne_eqb}
 use mathlib.Core.Path.{sym}
 use Rattle.fields.proofs.Laws.{when_true, when_false}

@@ -1,5 +1,4 @@
 -- The 4-node's header is refused, or what comes from its first place on is the answer.
-use borrow.Author.Rules.{rules}
 use mathlib.Core.Path.{◌∙◌}
 use Rattle.fields.proofs.Laws.{told}
 use Rattle.nodes.specs.Inner.{says_node}

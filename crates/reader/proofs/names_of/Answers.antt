@@ -1,5 +1,4 @@
 -- Three strings that were read in a row are joined; the first that is not whole decides.
-use borrow.Author.Rules.{rules}
 use Rattle.fields.specs.Says.{says_span}
 use Rattle.fields.proofs.Steps.{then_by, steps}
 use Rattle.reader.specs.Inner.{three_in_row}

@@ -1,5 +1,6 @@
 -- The axes 0 and 1 are told apart; any other number stands for the last axis.
 use borrow.Author.Rules.{rules}
+use native.Mathlib.Omega.{arith}
 use Rattle.slots.proofs.Runs.{axis-last}
 use Rattle.slots.proofs.along.Goals as goal
 
@@ -10,4 +11,4 @@ pub returns-in-1 : goal.returns-in-1
 returns-in-1 c = rw c.in-1.is (search rules)
 
 pub returns-in_default : goal.returns-in_default
-returns-in_default c = rw (← axis-last c.args.o c.args.axis c.in-0.rest.0.1 c.in-0.rest.1) (search rules)
+returns-in_default c = rw (← axis-last c.args.o c.args.axis (omega arith) (omega arith)) (search rules)

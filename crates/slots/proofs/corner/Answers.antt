@@ -2,9 +2,10 @@
 use borrow.Author.Rules.{rules}
 use mathlib.Core.Path.{◌≡◌}
 use Rattle.slots.proofs.Levels.{last-level}
+use Rattle.slots.proofs.corner.Goals.{Else-level-eq1}
 use Rattle.slots.proofs.corner.Goals as goal
 
-last : (c : goal.Else-level-eq1) → c.args.level ≡ 2
+last : (c : Else-level-eq1) → c.args.level ≡ 2
 last c = last-level _ _ c.if-level-eq0.false c.if-level-eq1.false c.requires.0
 
 pub offset_to_global_coord-requires : goal.offset_to_global_coord-requires

@@ -1,13 +1,13 @@
-use borrow.Author.Rules.{rules, sfits_of}
+-- One more slot has the coordinate of its corner, and after 64 the run is filled.
+use borrow.Author.Rules.{sfits_of}
 use mathlib.Core.Path.{ap, ◌∙◌}
-use Prim.Native.Nat.{◌-◌}
 use native.Mathlib.Omega.{arith}
 use mir.Syntax.{w32}
 use mir.Facts.{to_z-of_z}
 use Rattle.coordinates.specs.declared.GlobalCoord.{GlobalCoord}
-use Rattle.slots.specs.Inner.{corner_at, axis_of}
+use Rattle.slots.specs.Inner.{axis_of}
 use Rattle.slots.proofs.Levels.{masked}
-use Rattle.batch.proofs.Laws.{Filling, filling-none, filling-next, filling-all}
+use Rattle.batch.proofs.Laws.{filling-none, filling-next, filling-all}
 use Rattle.slots.proofs.fill_axis.Goals as goal
 
 pub loop-k-init : goal.loop-k-init

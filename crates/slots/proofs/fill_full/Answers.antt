@@ -1,5 +1,4 @@
 -- The five slices are filled one by one, and together they are the 64 records.
-use borrow.Author.Rules.{rules}
 use mathlib.Core.Path.{sym, ◌∙◌}
 use native.Mathlib.Omega.{arith}
 use Rattle.slots.specs.Slots.{slots_of}

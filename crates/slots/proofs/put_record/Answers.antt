@@ -1,5 +1,4 @@
 -- Each of the five slices has room for the slot, and is set there.
-use borrow.Author.Rules.{rules}
 use native.Mathlib.Omega.{arith}
 use Rattle.slots.proofs.put_record.Goals as goal
 
