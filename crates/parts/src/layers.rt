@@ -14,84 +14,85 @@ use fields::{DVec3Field, I32Field, I64Field, IVec3Field, SpanField, U8Field, U32
 use forms::{Coding, Stored};
 use masks::NextOne;
 use runs::ValuesField;
+use std::io::{self, Write};
 
-fn u8_field(a: U8Field) {
+fn u8_field(out: &mut impl Write, a: U8Field) -> io::Result<()> {
     match a {
-        U8Field::Got(v, _) => show::small(v as u32),
-        U8Field::Past => show::nothing(),
+        U8Field::Got(v, _) => show::small(out, v as u32),
+        U8Field::Past => show::nothing(out),
     }
 }
 
-fn u32_field(a: U32Field) {
+fn u32_field(out: &mut impl Write, a: U32Field) -> io::Result<()> {
     match a {
-        U32Field::Got(v, _) => show::small(v),
-        U32Field::Past => show::nothing(),
+        U32Field::Got(v, _) => show::small(out, v),
+        U32Field::Past => show::nothing(out),
     }
 }
 
-fn u64_field(a: U64Field) {
+fn u64_field(out: &mut impl Write, a: U64Field) -> io::Result<()> {
     match a {
-        U64Field::Got(v, _) => show::number(v),
-        U64Field::Past => show::nothing(),
+        U64Field::Got(v, _) => show::number(out, v),
+        U64Field::Past => show::nothing(out),
     }
 }
 
-fn i32_field(a: I32Field) {
+fn i32_field(out: &mut impl Write, a: I32Field) -> io::Result<()> {
     match a {
-        I32Field::Got(v, _) => show::signed32(v),
-        I32Field::Past => show::nothing(),
+        I32Field::Got(v, _) => show::signed32(out, v),
+        I32Field::Past => show::nothing(out),
     }
 }
 
-fn i64_field(a: I64Field) {
+fn i64_field(out: &mut impl Write, a: I64Field) -> io::Result<()> {
     match a {
-        I64Field::Got(v, _) => show::signed(v),
-        I64Field::Past => show::nothing(),
+        I64Field::Got(v, _) => show::signed(out, v),
+        I64Field::Past => show::nothing(out),
     }
 }
 
-fn f64_field(a: U64Field) {
+fn f64_field(out: &mut impl Write, a: U64Field) -> io::Result<()> {
     match a {
-        U64Field::Got(v, _) => show::double(fields::f64_of(v)),
-        U64Field::Past => show::nothing(),
+        U64Field::Got(v, _) => show::double(out, fields::f64_of(v)),
+        U64Field::Past => show::nothing(out),
     }
 }
 
-fn i_vec3_field(a: IVec3Field) {
+fn i_vec3_field(out: &mut impl Write, a: IVec3Field) -> io::Result<()> {
     match a {
-        IVec3Field::Got(v, _) => show::i_vec3(v),
-        IVec3Field::Past => show::nothing(),
+        IVec3Field::Got(v, _) => show::i_vec3(out, v),
+        IVec3Field::Past => show::nothing(out),
     }
 }
 
-fn d_vec3_field(a: DVec3Field) {
+fn d_vec3_field(out: &mut impl Write, a: DVec3Field) -> io::Result<()> {
     match a {
-        DVec3Field::Got(v, _) => show::d_vec3(v),
-        DVec3Field::Past => show::nothing(),
+        DVec3Field::Got(v, _) => show::d_vec3(out, v),
+        DVec3Field::Past => show::nothing(out),
     }
 }
 
-fn name_field(a: SpanField, s: &[u8]) {
+fn name_field(out: &mut impl Write, a: SpanField, s: &[u8]) -> io::Result<()> {
     match a {
-        SpanField::Got(w, _) => show::span(s, w),
-        SpanField::Past => show::nothing(),
+        SpanField::Got(w, _) => show::span(out, s, w),
+        SpanField::Past => show::nothing(out),
     }
 }
 
-fn numbers(s: &[u8], at: usize) {
-    u8_field(fields::read_u8(s, at));
-    u32_field(fields::read_u32(s, at));
-    u64_field(fields::read_u64(s, at));
-    i32_field(fields::read_i32(s, at));
-    i64_field(fields::read_i64(s, at));
+fn numbers(out: &mut impl Write, s: &[u8], at: usize) -> io::Result<()> {
+    u8_field(out, fields::read_u8(s, at))?;
+    u32_field(out, fields::read_u32(s, at))?;
+    u64_field(out, fields::read_u64(s, at))?;
+    i32_field(out, fields::read_i32(s, at))?;
+    i64_field(out, fields::read_i64(s, at))
 }
 
-fn fields_at(s: &[u8], at: usize) {
-    numbers(s, at);
-    f64_field(fields::read_u64(s, at));
-    i_vec3_field(fields::read_i_vec3(s, at));
-    d_vec3_field(fields::read_d_vec3(s, at));
-    name_field(fields::read_name(s, at), s);
+fn fields_at(out: &mut impl Write, s: &[u8], at: usize) -> io::Result<()> {
+    numbers(out, s, at)?;
+    f64_field(out, fields::read_u64(s, at))?;
+    i_vec3_field(out, fields::read_i_vec3(s, at))?;
+    d_vec3_field(out, fields::read_d_vec3(s, at))?;
+    name_field(out, fields::read_name(s, at), s)
 }
 
 fn half(i: usize) -> u64 {
@@ -149,62 +150,63 @@ fn low(n: u64) -> u32 {
     (n % 4294967296) as u32
 }
 
-fn next(a: NextOne) {
+fn next(out: &mut impl Write, a: NextOne) -> io::Result<()> {
     match a {
-        NextOne::At(q) => show::small(q.0),
-        NextOne::Nothing => show::nothing(),
+        NextOne::At(q) => show::small(out, q.0),
+        NextOne::Nothing => show::nothing(out),
     }
 }
 
-fn mask(s: &[u8], start: usize, n: usize, place: usize) {
+fn mask(out: &mut impl Write, s: &[u8], start: usize, n: usize, place: usize) -> io::Result<()> {
     let at = start % 8192;
     let bytes = n / 8 % 513 * 8;
     let p = place % 32769;
     if s.len() < 16384 {
-        return;
+        return Ok(());
     }
-    show::small(masks::count_ones(s, at, bytes));
-    show::small(masks::count_zeros(s, at, bytes));
+    show::small(out, masks::count_ones(s, at, bytes))?;
+    show::small(out, masks::count_zeros(s, at, bytes))?;
     if 8 * bytes < p {
-        return;
+        return Ok(());
     }
     let q = p as u32;
-    show::small(masks::count_ones_below(s, at, bytes, Index(q)));
-    show::small(masks::count_zeros_below(s, at, bytes, Index(q)));
-    next(masks::next_one(s, at, bytes, Index(q)));
+    show::small(out, masks::count_ones_below(s, at, bytes, Index(q)))?;
+    show::small(out, masks::count_zeros_below(s, at, bytes, Index(q)))?;
+    next(out, masks::next_one(s, at, bytes, Index(q)))?;
     if p < 8 * bytes {
-        show::flag(masks::bit(s, at, bytes, Index(q)));
+        show::flag(out, masks::bit(s, at, bytes, Index(q)))?;
     }
+    Ok(())
 }
 
-fn two(s: &[u8], one: usize, other: usize, n: usize) {
+fn two(out: &mut impl Write, s: &[u8], one: usize, other: usize, n: usize) -> io::Result<()> {
     let a = one % 8192;
     let b = other % 8192;
     let bytes = n / 8 % 513 * 8;
     if s.len() < 16384 {
-        return;
+        return Ok(());
     }
-    show::flag(masks::masks_overlap(s, a, b, bytes));
-    show::flag(masks::masks_equal(s, a, b, bytes));
+    show::flag(out, masks::masks_overlap(s, a, b, bytes))?;
+    show::flag(out, masks::masks_equal(s, a, b, bytes))
 }
 
-fn stored(s: &[u8], at: usize, width: usize) {
+fn stored(out: &mut impl Write, s: &[u8], at: usize, width: usize) -> io::Result<()> {
     if s.len() < 4 {
-        return;
+        return Ok(());
     }
     if s.len() - 4 < at {
-        return;
+        return Ok(());
     }
     if width == 2 {
-        return show::pattern(half::value_at(s, at, 2));
+        return show::pattern(out, half::value_at(s, at, 2));
     }
-    show::pattern(half::value_at(s, at, 4));
+    show::pattern(out, half::value_at(s, at, 4))
 }
 
-fn coord(v: GlobalCoord) {
-    show::signed32(v.0);
-    show::signed32(v.1);
-    show::signed32(v.2);
+fn coord(out: &mut impl Write, v: GlobalCoord) -> io::Result<()> {
+    show::signed32(out, v.0)?;
+    show::signed32(out, v.1)?;
+    show::signed32(out, v.2)
 }
 
 // The vector at 0.
@@ -216,40 +218,44 @@ fn vector(s: &[u8]) -> GlobalCoord {
 }
 
 // The corners of a 5-node's place, of a place of the 4-node there, and of a place of the leaf there.
-fn down(root: GlobalCoord, p: u32, q: u32, r: u32) {
-    coord(root);
+fn down(out: &mut impl Write, root: GlobalCoord, p: u32, q: u32, r: u32) -> io::Result<()> {
+    coord(out, root)?;
     if coordinates::is_aligned(root, 4096) {
         let node_4 = coordinates::offset_to_global_coord(Index(p % 32768), 32, 128, root);
-        coord(node_4);
+        coord(out, node_4)?;
         let leaf = coordinates::offset_to_global_coord(Index(q % 4096), 16, 8, node_4);
-        coord(leaf);
-        coord(coordinates::offset_to_global_coord(Index(r % 512), 8, 1, leaf));
+        coord(out, leaf)?;
+        coord(
+            out,
+            coordinates::offset_to_global_coord(Index(r % 512), 8, 1, leaf),
+        )?;
     }
+    Ok(())
 }
 
 // A place's number, and the place.
-fn index(p: Index, side: u32) {
+fn index(out: &mut impl Write, p: Index, side: u32) -> io::Result<()> {
     if side == 0 {
-        return;
+        return Ok(());
     }
     let l = coordinates::offset_to_local_coord(p, side);
-    show::small(p.0);
-    show::small(l.0);
-    show::small(l.1);
-    show::small(l.2);
+    show::small(out, p.0)?;
+    show::small(out, l.0)?;
+    show::small(out, l.1)?;
+    show::small(out, l.2)
 }
 
 // The origin of the root, and the places on the way down.
-fn back(v: GlobalCoord) {
-    coord(v);
-    coord(coordinates::root_origin(v));
-    index(coordinates::global_coord_to_offset(v, 32, 128), 32);
-    index(coordinates::global_coord_to_offset(v, 16, 8), 16);
-    index(coordinates::global_coord_to_offset(v, 8, 1), 8);
+fn back(out: &mut impl Write, v: GlobalCoord) -> io::Result<()> {
+    coord(out, v)?;
+    coord(out, coordinates::root_origin(v))?;
+    index(out, coordinates::global_coord_to_offset(v, 32, 128), 32)?;
+    index(out, coordinates::global_coord_to_offset(v, 16, 8), 16)?;
+    index(out, coordinates::global_coord_to_offset(v, 8, 1), 8)
 }
 
-fn ask_down(s: &[u8], a: usize, b: usize, c: usize) {
-    down(vector(s), low(a as u64), low(b as u64), low(c as u64));
+fn ask_down(out: &mut impl Write, s: &[u8], a: usize, b: usize, c: usize) -> io::Result<()> {
+    down(out, vector(s), low(a as u64), low(b as u64), low(c as u64))
 }
 
 // The number at place i of the row that a command asks for.
@@ -261,27 +267,50 @@ fn item(command: u8, s: &[u8], n: &[u64; 8], i: usize) -> u64 {
 }
 
 // The places from `from` to the one before `to`.
-fn row(command: u8, s: &[u8], n: &[u64; 8], from: usize, to: usize) {
+fn row(
+    out: &mut impl Write,
+    command: u8,
+    s: &[u8],
+    n: &[u64; 8],
+    from: usize,
+    to: usize,
+) -> io::Result<()> {
     let mut sum = 0;
     for i in from..to {
         sum = series::add(sum, item(command, s, n, i));
     }
-    series::end(sum);
+    series::end(out, sum)
 }
 
-fn ask_at(command: u8, s: &[u8], n: &[u64; 8], a: usize, b: usize, c: usize) {
+fn ask_at(
+    out: &mut impl Write,
+    command: u8,
+    s: &[u8],
+    n: &[u64; 8],
+    a: usize,
+    b: usize,
+    c: usize,
+) -> io::Result<()> {
     match command {
-        b'F' => fields_at(s, a),
-        b'M' => mask(s, a, b, c),
-        b'D' => two(s, a, b, c),
-        b'H' | b'N' => row(command, s, n, a, b),
-        b'S' => stored(s, a, b),
-        b'P' => ask_down(s, a, b, c),
-        b'V' => back(vector(s)),
-        _ => {}
+        b'F' => fields_at(out, s, a),
+        b'M' => mask(out, s, a, b, c),
+        b'D' => two(out, s, a, b, c),
+        b'H' | b'N' => row(out, command, s, n, a, b),
+        b'S' => stored(out, s, a, b),
+        b'P' => ask_down(out, s, a, b, c),
+        b'V' => back(out, vector(s)),
+        _ => Ok(()),
     }
 }
 
-pub fn ask(command: u8, s: &[u8], n: &[u64; 8]) {
-    ask_at(command, s, n, n[1] as usize, n[2] as usize, n[3] as usize);
+pub fn ask(out: &mut impl Write, command: u8, s: &[u8], n: &[u64; 8]) -> io::Result<()> {
+    ask_at(
+        out,
+        command,
+        s,
+        n,
+        n[1] as usize,
+        n[2] as usize,
+        n[3] as usize,
+    )
 }

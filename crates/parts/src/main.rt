@@ -6,24 +6,27 @@
 mod layers;
 
 use asking::line;
+use std::io::{self, BufWriter, Write};
 
-fn run(t: &[u8; 524288], len: usize, f: &mut [u8; 262144]) {
+fn run(out: &mut impl Write, t: &[u8], f: &mut [u8; 262144]) -> io::Result<()> {
     let mut m = line::empty(0);
     let mut n = [0u64; 8];
-    for i in 0..len {
-        let c = t[i % 524288];
-        if c == b'\n' {
-            layers::ask(m.command, line::file(m, f), &n);
-            m = line::end(m.command, m.len, f, &mut n);
+    for c in t {
+        if *c == b'\n' {
+            layers::ask(out, m.command, line::file(m, f), &n)?;
+            m = line::end(out, m.command, m.len, f, &mut n)?;
         } else {
-            m = line::read(m, c, f, &mut n);
+            m = line::read(out, m, *c, f, &mut n)?;
         }
     }
+    Ok(())
 }
 
-fn main() {
-    let mut t = [0u8; 524288];
+fn main(rt: HostRuntime) -> io::Result<()> {
+    let alloc = rt.alloc();
+    let t = line::input(alloc, rt.reader())?;
     let mut f = [0u8; 262144];
-    let len = line::input(&mut t);
-    run(&t, len, &mut f);
+    let mut out = BufWriter::new(alloc, io::writer(&rt))?;
+    run(&mut out, &t, &mut f)?;
+    out.flush()
 }

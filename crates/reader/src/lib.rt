@@ -41,7 +41,7 @@ pub fn new<'a>(src: &'a [u8]) -> Reader<'a>
     Reader { src, at: 0 }
 }
 
-// Where a reader that stood at `at` stands after a field. The borrow checker covers these, so that the functions over a reader need no branch.
+// Where a reader that stood at `at` stands after a field. With these the functions over a reader need no branch.
 fn after_u32(f: U32Field, at: usize) -> usize
     ensures { result ≡ next_at (says_u32 f) at }
 {

@@ -1,5 +1,4 @@
 -- The ones of the lowest z bits are the digits below z; at 64 nothing has to be cut off.
-use borrow.Author.Rules.{rules}
 use mathlib.Core.Path.{◌≡◌, sym, ap, ◌∙◌}
 use Prim.Native.Nat.{ℕ, ◌^◌, ◌<◌}
 use native.Mathlib.Nat.{mod-eq_of_lt}

@@ -1,16 +1,11 @@
-use borrow.Author.Rules.{rules}
-use mathlib.Core.Path.{◌≡◌, refl, ap, ◌∙◌}
-use mathlib.Core.Logic.{⊎_elim}
-use mathlib.Core.Bool.{true}
-use Prim.Native.Nat.{◌-◌}
+-- Each turn hands out the next active place, or ends where no place is wanted, none is active, or a value lies past the end.
+use mathlib.Core.Path.{refl, ap, ◌∙◌}
 use native.Mathlib.Omega.{arith}
-use Rattle.slots.specs.Slots.{slots_of}
-use Rattle.slots.specs.Inner.{Room, Readable}
-use Rattle.bits.specs.Inner.{hand_word, InWord}
 use Rattle.bits.specs.declared.Bits.{Bits}
-use Rattle.slots.proofs.Laws.{Same, same, in-room, put_same, put-room, room-less}
+use Rattle.slots.proofs.Laws.{same, in-room, put_same, put-room, room-less}
 use Rattle.slots.proofs.Levels.{masked}
-use Rattle.bits.proofs.Laws.{Going, starts, goes, ends, hand-full, hand-none, turn_one, turn-cut, word-past, sums-fit, Active, active-there, readable-past, record_is, run_is}
+use Rattle.bits.proofs.Laws.{starts, goes, ends, hand-full, hand-none, turn_one, turn-cut, word-past, sums-fit, Active, active-there, readable-past, record_is, run_is}
+use Rattle.bits.proofs.fill_any.Goals.{After-to_active-b, else-loop-at-test, then-loop-at-test+then-b-eq0, then-loop-at-test+else-b-eq0+then-room-w}
 use Rattle.bits.proofs.fill_any.Goals as goal
 
 -- what is known once the next active place is reached
@@ -32,7 +27,7 @@ pub stored_value-v-requires : goal.stored_value-v-requires
 stored_value-v-requires c =
     let a = there (goal.at.stored_value-v-requires c).After-to_active-b in
     let w = c.to_active-b.result.inside in
-    let m = masked w.level-1 in (
+    let m = masked w.level in (
       a.readable.width,
       (
         omega (arith, a.readable.number, a.word.places, a.some_left, m.small, m.bits),
@@ -68,17 +63,19 @@ loop-at-preserved c =
       l.invariant.4,
       goes l.invariant.5 (turn_one _ _ _ l.b r.result l.invariant.0 l.invariant.1 c.if-b-eq0.false r.ensures _ l.at
           c.loop-at-test.true c.if-room-w.false
-          (record_is _ _ r.result.inside-1 c.corner.ensures c.stored_value-v.ensures)
+          (record_is _ _ r.result.inside c.corner.ensures c.stored_value-v.ensures)
           c.past_active-b.ensures) w,
     )
 
 pub returns : goal.returns
 returns c =
     let l = c.loop-at in
-    ⊎_elim
-    (λ t. ends l.invariant.5 (hand-full _ _ _ _ _ _ (omega (arith, t.0.left))) (run_is (ap (λ (b : Bits). b.inside-1) t.1) (t.2 ∙ l.invariant.4)))
-    (λ t. ⊎_elim
-    (λ t. ends l.invariant.5 (hand-none _ l.b l.invariant.1 _ _ (omega (arith, t.0.taken)) t.2.taken) (run_is (ap (λ (b : Bits). b.inside-1) t.4 ∙ t.3.ensures) (t.5 ∙ l.invariant.4)))
-    (λ t. ends l.invariant.5 (turn-cut _ _ _ l.b _ l.invariant.0 l.invariant.1 t.2.left t.3.ensures _ _ t.0.taken t.6.taken) (run_is (ap (λ (b : Bits). b.inside-1) t.7) t.8))
-    t)
-    c.loop-at-test.branch
+    elim c.loop-at-test.branch [
+      | else-loop-at-test w ↦ ends l.invariant.5 (hand-full _ _ _ _ _ _ (omega (arith, w.loop-at-test.false))) (run_is (ap (λ (b : Bits). b.inside) w.b-is) (w.whole-is ∙ l.invariant.4))
+      | then-loop-at-test+then-b-eq0 w ↦
+          ends l.invariant.5 (hand-none _ l.b l.invariant.1 _ _ (omega (arith, w.loop-at-test.true)) w.if-b-eq0.true)
+          (run_is (ap (λ (b : Bits). b.inside) w.b-is ∙ w.pass-w.ensures) (w.whole-is ∙ l.invariant.4))
+      | then-loop-at-test+else-b-eq0+then-room-w w ↦
+          ends l.invariant.5 (turn-cut _ _ _ l.b _ l.invariant.0 l.invariant.1 w.if-b-eq0.false w.to_active-b.ensures _ _ w.loop-at-test.true w.if-room-w.true)
+          (run_is (ap (λ (b : Bits). b.inside) w.b-is) w.whole-is)
+    ]

@@ -1,17 +1,12 @@
 -- The invariant: what the word behind the places passed hands out, after what was handed out, is what the whole word does.
-use borrow.Author.Rules.{rules}
-use mathlib.Core.Path.{◌≡◌, refl, ap, ◌∙◌}
-use mathlib.Core.Logic.{⊎_elim}
+use mathlib.Core.Path.{◌≡◌}
 use mathlib.Core.Bool.{true}
 use Prim.Native.Nat.{◌-◌}
-use native.Mathlib.Omega.{arith}
 use Rattle.slots.specs.Slots.{slots_of}
 use Rattle.slots.specs.Inner.{Room, Readable}
 use Rattle.bits.specs.Inner.{hand_word, InWord}
-use Rattle.bits.specs.declared.Bits.{Bits}
-use Rattle.slots.proofs.Laws.{Same, same, in-room, put_same, put-room, room-less}
-use Rattle.slots.proofs.Levels.{masked}
-use Rattle.bits.proofs.Laws.{Going, starts, goes, ends, hand-full, hand-none, turn_one, turn-cut, word-past, sums-fit, Active, active-there, readable-past, record_is, run_is}
+use Rattle.slots.proofs.Laws.{Same}
+use Rattle.bits.proofs.Laws.{Going}
 use Rattle.bits.proofs.fill_any.Given as goal
 
 abbrev pub invariant-loop-at : goal.invariant-loop-at

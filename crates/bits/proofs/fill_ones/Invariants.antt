@@ -1,19 +1,12 @@
 -- The invariant: behind p places, as many of them active as records were handed out, what is left to hand out makes up the whole.
-use borrow.Author.Rules.{rules}
-use mathlib.Core.Path.{◌≡◌, refl, sym, ap, ◌∙◌}
-use Prim.Native.Nat.{ℕ, ◌+◌, ◌-◌, ◌*◌, ◌/◌, ◌^◌, ◌<◌, ◌≤◌}
-use native.Mathlib.Nat.{zero-mul, div-mul-le_self}
-use native.Mathlib.Omega.{arith}
-use lib.Count.{count_trailing_zeros}
+use mathlib.Core.Path.{◌≡◌}
+use Prim.Native.Nat.{◌-◌, ◌≤◌}
 use Rattle.slots.specs.Slots.{slots_of}
 use Rattle.slots.specs.Inner.{Room}
 use Rattle.masks.specs.Inner.{ones_past}
-use Rattle.masks.proofs.Ones.{lowest-past, past-on}
 use Rattle.bits.specs.Inner.{hand_word, number_in, past}
-use Rattle.bits.specs.declared.Bits.{Bits}
-use Rattle.slots.proofs.Laws.{Same, same, in-room, put_same, put-room, room-less}
-use Rattle.bits.proofs.Laws.{ones_small, Going, goes, ends, hand-full, run_is}
-use Rattle.bits.proofs.Ones.{begins, number-le, leaf-multiple, leaf-places, done, one_inside, one_more}
+use Rattle.slots.proofs.Laws.{Same}
+use Rattle.bits.proofs.Laws.{Going}
 use Rattle.bits.proofs.fill_ones.Given as goal
 
 abbrev pub invariant-loop-i : goal.invariant-loop-i

@@ -1,5 +1,4 @@
 -- Where every place is stored, the places passed are counted, and else the active ones.
-use borrow.Author.Rules.{rules}
 use Rattle.bits.proofs.Ones.{number-every, number-active}
 use Rattle.bits.proofs.number_behind.Goals as goal
 

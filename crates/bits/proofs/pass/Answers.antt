@@ -1,5 +1,4 @@
 -- The stored places that are skipped are at most the places passed, so both sums fit.
-use borrow.Author.Rules.{rules}
 use mathlib.Core.Path.{ap}
 use Prim.Native.Nat.{ℕ, ◌+◌}
 use native.Mathlib.Omega.{arith}

@@ -1,7 +1,5 @@
 -- A place is left in the word, so the numbers stay in their bounds; the rest is the definition.
-use borrow.Author.Rules.{rules}
 use native.Mathlib.Omega.{arith}
-use mathlib.Core.Path.{refl}
 use Rattle.bits.proofs.past_active.Goals as goal
 
 pub overflow_add-inside : goal.overflow_add-inside

@@ -1,5 +1,4 @@
 -- None of the places is active: all are stored, or none is, or those without a child.
-use borrow.Author.Rules.{rules}
 use borrow.Author.Tests.{ne_eqb}
 use native.Mathlib.Omega.{arith}
 use Rattle.fields.specs.Parse.{when}

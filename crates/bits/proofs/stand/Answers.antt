@@ -1,5 +1,4 @@
 -- The record is that of the definition, once the number of the next stored value is.
-use borrow.Author.Rules.{rules}
 use Rattle.bits.proofs.stand.Goals as goal
 
 pub returns : goal.returns

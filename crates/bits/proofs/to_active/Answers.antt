@@ -10,10 +10,10 @@ use Rattle.bits.specs.declared.Bits.{Bits}
 use Rattle.bits.proofs.Laws.{inside-word}
 use Rattle.bits.proofs.to_active.Goals as goal
 
-inside : (b : Bits) → SumsFit b × (b.ones < 2 ^ b.false) × (b.ones ≡ 0 → ⊥) → count_trailing_zeros 64 b.ones < b.false
-inside b p = inside-word b.false b.ones p.1 (lt_of_lt_of_le p.1 (pow_mono p.0.word)) p.2
+inside : (b : Bits) → SumsFit b × (b.ones < 2 ^ b.left) × (b.ones ≡ 0 → ⊥) → count_trailing_zeros 64 b.ones < b.left
+inside b p = inside-word b.left b.ones p.1 (lt_of_lt_of_le p.1 (pow_mono p.0.word)) p.2
 
-small : (b : Bits) → SumsFit b × (b.ones < 2 ^ b.false) × (b.ones ≡ 0 → ⊥) → count_trailing_zeros 64 b.ones < 64
+small : (b : Bits) → SumsFit b × (b.ones < 2 ^ b.left) × (b.ones ≡ 0 → ⊥) → count_trailing_zeros 64 b.ones < 64
 small b p = omega (arith, inside b p, p.0.word)
 
 pub pass-inside-requires : goal.pass-inside-requires

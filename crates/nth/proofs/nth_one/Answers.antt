@@ -1,16 +1,19 @@
-use borrow.Author.Rules.{rules}
+-- Each turn counts a word of the mask, which has the one that is asked for or fewer ones than are left to pass.
 use mathlib.Core.Path.{◌≡◌, refl, ap}
-use Prim.Native.Nat.{◌+◌, ◌-◌, ◌*◌, ◌%◌, ◌≤◌, ◌<◌}
+use Prim.Native.Nat.{◌+◌, ◌*◌, ◌<◌}
 use native.Mathlib.Omega.{arith}
 use lib.Count.{ones}
 use lib.ListN.{length}
 use Rattle.masks.specs.Masks.{mask_bit, count_below}
 use Rattle.masks.proofs.Laws.{ones_none}
 use Rattle.masks.proofs.Words.{count-on, whole}
+use Rattle.nth.proofs.nth_one.Goals.{After-word-ones}
 use Rattle.nth.proofs.nth_one.Goals as goal
 
 -- the ones up to the end of this word
-counted : (c : goal.After-word-ones) → count_below (mask_bit c.args.s.now c.args.at) (8 * c.loop-i.i) + ones c.word-ones.result
+counted :
+    (c : goal.After-word-ones) →
+    count_below (mask_bit c.args.s.now c.args.at) (8 * c.loop-i.i) + ones c.word-ones.result
     ≡ count_below (mask_bit c.args.s.now c.args.at) (8 * (c.loop-i.i + 8))
 counted c =
     let f = mask_bit c.args.s.now c.args.at in
@@ -38,7 +41,8 @@ pub loop-i-smaller : goal.loop-i-smaller
 loop-i-smaller c = omega arith
 
 pub loop-i-preserved : goal.loop-i-preserved
-loop-i-preserved c = let t : c.loop-i.i < c.args.n = c.loop-i-test.true in
+loop-i-preserved c =
+    let t : c.loop-i.i < c.args.n = c.loop-i-test.true in
     (omega (arith, t, c.loop-i.invariant.1, c.requires.0.words), omega (arith, c.loop-i.invariant.1), omega (arith, counted (goal.at.loop-i-preserved c).After-word-ones, c.loop-i.invariant.2, c.if-left-ones.false))
 
 pub returns : goal.returns

@@ -1,13 +1,7 @@
 -- The ones of the words passed and those that are left to pass make the number that is asked for.
-use borrow.Author.Rules.{rules}
-use mathlib.Core.Path.{◌≡◌, refl, ap}
-use Prim.Native.Nat.{◌+◌, ◌-◌, ◌*◌, ◌%◌, ◌≤◌, ◌<◌}
-use native.Mathlib.Omega.{arith}
-use lib.Count.{ones}
-use lib.ListN.{length}
+use mathlib.Core.Path.{◌≡◌}
+use Prim.Native.Nat.{◌+◌, ◌-◌, ◌*◌, ◌%◌, ◌≤◌}
 use Rattle.masks.specs.Masks.{mask_bit, count_below}
-use Rattle.masks.proofs.Laws.{ones_none}
-use Rattle.masks.proofs.Words.{count-on, whole}
 use Rattle.nth.proofs.nth_one.Given as goal
 
 abbrev pub invariant-loop-i : goal.invariant-loop-i

@@ -1,34 +1,32 @@
-use borrow.Author.Rules.{rules}
+-- Each turn finds the next one of the mask, which is there as long as ones are left to pass.
 use mathlib.Core.Bool.{Bool}
 use mathlib.Core.Option.{some}
 use mathlib.Core.Path.{◌≡◌, refl}
-use Prim.Native.Nat.{ℕ, ◌+◌, ◌-◌, ◌*◌, ◌≤◌, ◌<◌}
+use Prim.Native.Nat.{ℕ, ◌*◌, ◌≤◌, ◌<◌}
 use native.Mathlib.Omega.{arith}
 use Rattle.fields.proofs.Laws.{told}
-use Rattle.masks.specs.Masks.{mask_bit, count_below}
+use Rattle.masks.specs.Masks.{mask_bit}
 use Rattle.masks.specs.Inner.{next_one, says_next}
 use Rattle.nth.proofs.Laws.{one-missing, next-below, next-behind, one-here, one_on}
+use Rattle.nth.proofs.one_from.Goals.{In-At}
 use Rattle.nth.proofs.one_from.Goals as goal
 
-abbrev bits : goal.Start → ℕ → Bool
-bits p = mask_bit p.args.s.now p.args.at
-
--- the next one, where it was asked for, and its turn of the loop
-module _ (n : goal.In-At-2) where
-  abbrev l : goal.At-loop-q
-  l = n
+-- the next one, where it was asked for
+module _ (c : goal.In-At) where
+  abbrev bits : ℕ → Bool
+  bits = mask_bit c.args.s.now c.args.at
 
   abbrev places : ℕ
-  places = 8 * l.args.n
+  places = 8 * c.args.n
 
-  next : some n.in-At.q-1.0 ≡ next_one (bits (l)) places l.loop-q.p
-  next = told says_next n.in-At.is n.next_one.ensures
+  next : some c.in-At.q.0 ≡ next_one bits places c.loop-q.p
+  next = told says_next c.in-At.is c.next_one.ensures
 
-  below : n.in-At.q-1.0 < places
-  below = next-below (bits (l)) places l.loop-q.p _ _ l.loop-q.invariant.1 _ next
+  below : c.in-At.q.0 < places
+  below = next-below bits places c.loop-q.p _ _ c.loop-q.invariant.1 _ next
 
-  behind : l.loop-q.p ≤ n.in-At.q-1.0
-  behind = next-behind (bits (l)) places l.loop-q.p _ _ l.loop-q.invariant.1 _ next
+  behind : c.loop-q.p ≤ c.in-At.q.0
+  behind = next-behind bits places c.loop-q.p _ _ c.loop-q.invariant.1 _ next
 
 pub loop-q-init : goal.loop-q-init
 loop-q-init c = (c.requires.1, refl)
@@ -38,16 +36,20 @@ next_one-requires c = (c.requires.0, c.loop-q.invariant.0)
 
 pub returns-in_default : goal.returns-in_default
 returns-in_default c =
-    absurd (one-missing (bits (goal.at.returns-in_default c).Start) (8 * c.args.n) c.loop-q.p _ _ c.loop-q.invariant.1 c.loop-q.invariant.0 c.requires.2 (told says_next c.in_default.is c.next_one.ensures))
+    absurd (one-missing (mask_bit c.args.s.now c.args.at) (8 * c.args.n) c.loop-q.p _ _ c.loop-q.invariant.1 c.loop-q.invariant.0 c.requires.2 (told says_next c.in_default.is c.next_one.ensures))
 
 pub returns-then-left-eq0 : goal.returns-then-left-eq0
-returns-then-left-eq0 c = one-here (bits (start (l c))) _ (l c).loop.p _ _ (l c).loop.invariant.1 _ (next c) c.if-left-eq0.true
+returns-then-left-eq0 c =
+    let t = (goal.at.returns-then-left-eq0 c).In-At in
+    one-here (bits t) _ c.loop-q.p _ _ c.loop-q.invariant.1 _ (next t) c.if-left-eq0.true
 
 pub overflow_add-p : goal.overflow_add-p
-overflow_add-p c = omega (arith, below c, (start (l c)).pre.0.small)
+overflow_add-p c = omega (arith, below (goal.at.overflow_add-p c).In-At, c.requires.0.small)
 
 pub loop-q-smaller : goal.loop-q-smaller
-loop-q-smaller c = omega (arith, below c, behind c)
+loop-q-smaller c = let t = (goal.at.loop-q-smaller c).In-At in omega (arith, below t, behind t)
 
 pub loop-q-preserved : goal.loop-q-preserved
-loop-q-preserved c = (omega (arith, below c), one_on (bits (start (l c))) _ (l c).loop.p _ _ (l c).loop.inv.1 _ (next c) c.if-left-eq0.false)
+loop-q-preserved c =
+    let t = (goal.at.loop-q-preserved c).In-At in
+    (omega (arith, below t), one_on (bits t) _ c.loop-q.p _ _ c.loop-q.invariant.1 _ (next t) c.if-left-eq0.false)

@@ -1,14 +1,7 @@
 -- The ones below the place reached and those that are left to pass make the number that is asked for.
-use borrow.Author.Rules.{rules}
-use mathlib.Core.Bool.{Bool}
-use mathlib.Core.Option.{some}
-use mathlib.Core.Path.{◌≡◌, refl}
-use Prim.Native.Nat.{ℕ, ◌+◌, ◌-◌, ◌*◌, ◌≤◌, ◌<◌}
-use native.Mathlib.Omega.{arith}
-use Rattle.fields.proofs.Laws.{told}
+use mathlib.Core.Path.{◌≡◌}
+use Prim.Native.Nat.{◌+◌, ◌-◌, ◌*◌, ◌≤◌}
 use Rattle.masks.specs.Masks.{mask_bit, count_below}
-use Rattle.masks.specs.Inner.{next_one, says_next}
-use Rattle.nth.proofs.Laws.{one-missing, next-below, next-behind, one-here, one_on}
 use Rattle.nth.proofs.one_from.Given as goal
 
 abbrev pub invariant-loop-q : goal.invariant-loop-q

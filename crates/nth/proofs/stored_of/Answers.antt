@@ -1,5 +1,4 @@
 -- A number that is neither 0 nor 1 stands for the places without a child.
-use borrow.Author.Rules.{rules}
 use native.Mathlib.Omega.{arith}
 use Rattle.nth.proofs.Laws.{stored-else}
 use Rattle.nth.proofs.stored_of.Goals as goal

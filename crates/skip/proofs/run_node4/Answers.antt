@@ -1,51 +1,41 @@
 -- The header that is read before the 4-node's leaves is the one that would be read behind them.
 use borrow.Author.Rules.{rules}
-use mathlib.Core.Path.{◌≡◌}
 use native.Mathlib.Omega.{arith}
-use Rattle.fields.specs.Parse.{got}
 use Rattle.fields.proofs.Laws.{told}
 use Rattle.masks.specs.Inner.{says_next}
-use Rattle.nodes.specs.Nodes.{node_field}
 use Rattle.nodes.specs.Inner.{says_node}
 use Rattle.skip.proofs.Steps.{ran-none}
 use Rattle.skip.proofs.Leaves.{child-mask}
 use Rattle.skip.proofs.Nodes.{multiple5, below5, value-mask4, node4-in, ran-inside, node-passed}
 use Rattle.skip.proofs.run_node4.Goals as goal
 
--- the header, from where it was asked for
-module _ (k : goal.In-Got-2) where
-  abbrev asked : goal.After-read_node_header
-  asked = k
-
-  abbrev start : goal.Start
-  start = asked
-
-  header : got k.in-Got.h-1 k.in-Got.at ≡ node_field start.args.s.now start.args.c 512 start.args.t.cursor.topology_pos
-  header = told says_node k.in-Got.is asked.read_node_header.ensures
-
 pub returns-in_default : goal.returns-in_default
 returns-in_default c = ran-none _ _ _
 
 pub offset_to_global_coord-origin-requires : goal.offset_to_global_coord-origin-requires
-offset_to_global_coord-origin-requires c = let a = start c in (search rules, below5 _ a.args.c _ a.requires.1 a.requires.2, multiple5 _ a.args.c _ a.requires.1)
+offset_to_global_coord-origin-requires c = (search rules, below5 _ c.args.c _ c.requires.1 c.requires.2, multiple5 _ c.args.c _ c.requires.1)
 
 pub run_leaves-r-requires : goal.run_leaves-r-requires
-run_leaves-r-requires c = let a = start c in let o = c.offset_to_global_coord-origin.ensures in (a.requires.0, node4-in _ _ _ a.requires.1 a.requires.2 (header c) o.0 o.1)
+run_leaves-r-requires c =
+    let o = c.offset_to_global_coord-origin.ensures in
+    (c.requires.0, node4-in _ _ _ c.requires.1 c.requires.2 (told says_node c.in-Got.is c.read_node_header.ensures) o.0 o.1)
 
 pub next_one-requires : goal.next_one-requires
 next_one-requires c = child-mask c.run_leaves-r.ensures
 
 pub count_ones-tiles-requires : goal.count_ones-tiles-requires
-count_ones-tiles-requires c = let a = start c in value-mask4 _ _ _ a.requires.1 a.requires.2 (header c) c.offset_to_global_coord-origin.ensures.0
+count_ones-tiles-requires c =
+    value-mask4 _ _ _ c.requires.1 c.requires.2 (told says_node c.in-Got.is c.read_node_header.ensures) c.offset_to_global_coord-origin.ensures.0
 
 pub returns-then-tiles-r : goal.returns-then-tiles-r
 returns-then-tiles-r c =
-    node-passed _ _ _ (start c).pre.1 (start c).pre.2 (header c) c.offset_to_global_coord-origin.ensures.0 c.run_leaves-r.ensures
-    (told says_next c.in-Nothing.is c.next_one.ensures) c.count_ones-tiles.ensures c.if-tiles-r.true
+    node-passed _ _ _ c.requires.1 c.requires.2 (told says_node c.in-Got.is c.read_node_header.ensures) c.offset_to_global_coord-origin.ensures.0
+    c.run_leaves-r.ensures (told says_next c.in-Nothing.is c.next_one.ensures) c.count_ones-tiles.ensures c.if-tiles-r.true
 
 pub overflow_add-node5 : goal.overflow_add-node5
-overflow_add-node5 c = let a = start c in omega (arith, below5 _ a.args.c _ a.requires.1 a.requires.2)
+overflow_add-node5 c = omega (arith, below5 _ c.args.c _ c.requires.1 c.requires.2)
 
 pub returns : goal.returns
 returns c =
-    ran-inside _ _ _ (start c).pre.1 (start c).pre.2 (header c) c.offset_to_global_coord-origin.ensures.0 c.run_leaves-r.ensures c.in_node4-behind.ensures
+    ran-inside _ _ _ c.requires.1 c.requires.2 (told says_node c.in-Got.is c.read_node_header.ensures) c.offset_to_global_coord-origin.ensures.0
+    c.run_leaves-r.ensures c.in_node4-behind.ensures

@@ -1,5 +1,4 @@
 -- In a node whose words pass the test a run over its children is a run from the cursor.
-use borrow.Author.Rules.{rules}
 use mathlib.Core.Path.{sym, ◌∙◌}
 use Rattle.skip.proofs.Steps.{ran-none}
 use Rattle.skip.proofs.Leaves.{ran-there}

@@ -1,9 +1,6 @@
 -- From the cursor reached the same comes of it as from the first. The loop ends because behind each piece fewer are to come.
-use borrow.Author.Rules.{rules}
-use mathlib.Core.Path.{◌≡◌, refl, ◌∙◌, subst}
-use Prim.Native.Nat.{◌<◌}
-use native.Mathlib.Nat.{lt_of_le_of_lt}
-use Rattle.skip.specs.Inner.{skip_of, left, passed_by}
+use mathlib.Core.Path.{◌≡◌}
+use Rattle.skip.specs.Inner.{skip_of, left}
 use Rattle.skip.proofs.skip.Given as goal
 
 abbrev pub invariant-loop-a : goal.invariant-loop-a
