@@ -4,8 +4,8 @@
 #     target_link_libraries(program PRIVATE Wuraiko::vdb)
 #
 # `packaging/install PREFIX` copies this file to PREFIX/lib/cmake/Wuraiko/WuraikoConfig.cmake, where -DCMAKE_PREFIX_PATH=PREFIX lets CMake find it. Without
-# an installation, CMAKE_MODULE_PATH names the folder of this file in the repository, and the library is the one that `rt staticlib vdb` writes. Another
-# place is told by -DWuraiko_LIBRARY=.. and -DWuraiko_INCLUDE_DIR=..; the library is for x86-64 only.
+# an installation, CMAKE_MODULE_PATH names the folder of this file in the repository, and the library is the one that packaging/library writes.
+# Another place is told by -DWuraiko_LIBRARY=.. and -DWuraiko_INCLUDE_DIR=..; the library is for x86-64 only.
 
 # Above this file: the repository, or PREFIX.
 set(_wuraiko_above "${CMAKE_CURRENT_LIST_DIR}/.." "${CMAKE_CURRENT_LIST_DIR}/../../..")

@@ -41,7 +41,7 @@ CALLS = [
 ]
 
 # Theorems that a reader is pointed to, by crate and name: of these, the statement is looked at, with the
-# parameters of the sections that it stands in. Files proofs/FUNCTION/Proof.antt are not searched.
+# parameters of the sections that it stands in. What is written of one function's proof, below proofs/FUNCTION/, is not searched.
 THEOREMS = [
     'grid::listed', 'grid::covered', 'grid::apart', 'walk::demand3', 'walk::place-own', 'walk::row-22', 'rows::demand3-rows',
     'vdb::walks', 'vdb::walks-at-0', 'cases::cases',
@@ -49,12 +49,12 @@ THEOREMS = [
 
 # crate::name of definitions that are reached but not followed, each with its reason.
 OPAQUE = {
-    'grid::placeAfter': 'a name for a place; which words it has is nothing to believe, as the promises only compare it with itself',
+    'grid::place_after': 'a name for a place; which words it has is nothing to believe, as the promises only compare it with itself',
 }
 
 # crate::name of definitions that --check lets stand where they are, each with its reason.
 ALLOWED = {
-    'grid::startOf': 'what placeAfter, a name for a place, is made of: it stands beside it',
+    'grid::start_of': 'what place_after, a name for a place, is made of: it stands beside it',
 }
 
 NAME = r'(?:[^\s(){}.;,@"«»]+|«[^»]+»)'
@@ -187,20 +187,25 @@ class Module(Scope):
         return found
 
 
+def is_of_function(path, base):
+    """Whether a file belongs to the proof of one function."""
+    return base.name == 'proofs' and path.parent != base and path.name in ('Proof.antt', 'Answers.antt', 'Invariants.antt')
+
+
 class Crates:
     def __init__(self, root):
         self.modules, self.sources = {}, {}
         for crate in sorted(path for path in (root / 'crates').iterdir() if path.is_dir()):
             for part in ('specs', 'proofs'):
                 for path in sorted((crate / part).rglob('*.antt')):
-                    if path.name != 'Proof.antt':
+                    if not is_of_function(path, crate / part):
                         module = Module(crate.name, part, path, crate / part)
                         self.modules[crate.name, part, module.name] = module
             self.sources[crate.name] = [path.read_text(encoding='utf-8') for path in sorted((crate / 'src').rglob('*.rt'))]
 
     def module_at(self, path):
         """The module that a path names, if it is one of ours."""
-        match = re.match(r'(?:package\.)?Rattle·([^.·]+)(?:·specs|·proofs)?\.(specs|proofs)\.(.+)$', path)
+        match = re.match(r'Rattle\.([^.]+)\.(specs|proofs)\.(.+)$', path)
         return self.modules.get(match.groups()) if match else None
 
     def exported(self, path, name):
@@ -285,7 +290,7 @@ def contract_of(crates, call):
             scope = Scope(crate)
             for line in re.findall(r'^ghost (use [^;]*);', source, re.M):
                 scope.use(' '.join(line.split()))
-            clauses = re.findall(r'(?:requires|ensures)\s*\{(.*?)\}\s*(?=requires|ensures|\{$)', head.group(), re.S)
+            clauses = re.findall(r'(?:requires|ensures)\*?\s*\{(.*?)\}\s*(?=requires|ensures|\{$)', head.group(), re.S)
             if not clauses or len(re.findall(r'\bfn\s', head.group())) != 1:
                 raise Trouble('%s has no contract' % call)
             return scope, clauses

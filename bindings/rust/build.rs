@@ -55,7 +55,7 @@ fn main() {
     // A folder that is given from the directory of the call would be searched by the linker from another one.
     let Ok(folder) = folder.canonicalize().and_then(|f| f.join("libvdb.a").metadata().map(|_| f)) else {
         eprintln!("there is no {}", archive.display());
-        eprintln!("Build it with `rt staticlib vdb` in the repository of the reader, which writes target/staticlib/libvdb.a,");
+        eprintln!("Build it with packaging/library in the repository of the reader, which writes target/staticlib/libvdb.a,");
         eprintln!("or set WURAIKO_LIB_DIR to the folder that holds libvdb.a.");
         exit(1);
     };

@@ -6,7 +6,7 @@ here=$(cd "$(dirname "$0")" && pwd)
 root=$(cd "$here/../.." && pwd)
 build=$root/target/compare/ours
 mkdir -p "$build"
-(cd "$root" && "${RT:-rt}" staticlib vdb)
+"$root/packaging/library"
 compile() { # the program, and what it is made of
     local program=$1
     shift

@@ -3,7 +3,7 @@
 
     signatures.py [ROOT]    ROOT is the repository, if it is not the one of this file; exit status 1 where something differs
 
-Compared are crates/vdb/src/lib.rt, include/vdb.h, bindings/rust/src/sys.rs and crates/words/src/lib.rt:
+Compared are crates/vdb_c/src/lib.rt, include/vdb.h, bindings/rust/src/sys.rs and crates/words/src/lib.rt:
 
 - the functions, and of each the names, order and types of its parameters. A slice crosses as a pointer and a length, `&mut [u64; N]` as an array of N
   words, in the header of as many as a constant there says. sys.rs may leave functions out;
@@ -17,7 +17,7 @@ import pathlib
 import re
 import sys
 
-LIBRARY, HEADER, RUST, WORDS = 'crates/vdb/src/lib.rt', 'include/vdb.h', 'bindings/rust/src/sys.rs', 'crates/words/src/lib.rt'
+LIBRARY, HEADER, RUST, WORDS = 'crates/vdb_c/src/lib.rt', 'include/vdb.h', 'bindings/rust/src/sys.rs', 'crates/words/src/lib.rt'
 # Names that the header has in place of the library's and of the Rust's own.
 IN_LIBRARY, IN_RUST = {'s': 'file', 'number': 'leaf'}, {'len': 'file_len'}
 C_TYPES = {'uint8_t': 'u8', 'uint32_t': 'u32', 'uint64_t': 'u64', 'int32_t': 'i32', 'size_t': 'usize'}
@@ -57,7 +57,7 @@ def of_library(text):
     """What crosses, by the library's text."""
     text = re.sub(r'//[^\n]*', '', text)
     found = []
-    for name, given, result in re.findall(r'#\[no_mangle\]\s*pub extern "C" fn (\w+)\s*\(([^)]*)\)\s*->\s*(\w+)', text):
+    for name, given, result in re.findall(r'#\[unsafe\(no_mangle\)\]\s*pub extern "C" fn (\w+)\s*\(([^)]*)\)\s*->\s*(\w+)', text):
         crossing = []
         for parameter in filter(None, re.split(r',\s*(?=\w+\s*:)', given.strip().rstrip(','))):
             own, reference, changed, element, length, plain = taken(
@@ -193,8 +193,8 @@ FAULTS = [
     (LIBRARY, 'number: u64', 'n: u64'),
     (LIBRARY, 'n: u32, number: u64', 'number: u64, n: u32'),
     (LIBRARY, ') -> u32', ') -> u64'),
-    (LIBRARY, '#[no_mangle]\n', ''),
-    (LIBRARY, '#[no_mangle]\n', '#[no_mangle]\npub extern "C" fn vdb_more(s: &[u8]) -> u32\n{\n    0\n}\n#[no_mangle]\n'),
+    (LIBRARY, '#[unsafe(no_mangle)]\n', ''),
+    (LIBRARY, '#[unsafe(no_mangle)]\n', '#[unsafe(no_mangle)]\npub extern "C" fn vdb_more(s: &[u8]) -> u32\n{\n    0\n}\n#[unsafe(no_mangle)]\n'),
     (WORDS, 'const LAYOUT: u32 = 1', 'const LAYOUT: u32 = 2'),
     (HEADER, 'VDB_LAYOUT = 1', 'VDB_LAYOUT = 2'),
     (HEADER, 'vdb_layout(void)', 'vdb_layout(uint32_t n)'),

@@ -7,7 +7,7 @@ fewer left, told and in the place handed back, which is one of the same grid. Th
 so, the lines `Past` those that get 22 and leave all slots as they were, as they must where slots are lent, records are left and
 the field needed is past the end.
 
-Each number can be wrong. A fault in crates/walk/src/lib.rt, and what it changes in the lines (tried with `rt try questions`):
+Each number can be wrong. A fault in crates/walk/src/lib.rt, and what it changes in the lines (tried with `rt try` in crates/questions):
 
     a slot behind the filled ones written             Walk, Next: the third number; Foreign: the second
     a slot written where none is lent                 Walk, Next: the third number

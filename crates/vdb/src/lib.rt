@@ -1,6 +1,6 @@
-// The reader for programs in C and Rust: the functions of the static library libvdb.a, which include/vdb.h tells. Only what one crate exports goes into the
-// library, so that each function stands here and hands on to the crate that has it. What it returns is 0, or the number of the check that refused; then
-// nothing lent is changed. A slice crosses as a pointer and a length, an array as a pointer.
+// The reader for programs in C and Rust: the functions that include/vdb.h tells, as Rattle calls them. The static library libvdb.a, the crate vdb_c, has an
+// export for each of them. Each hands on to the crate that has it. What it returns is 0, or the number of the check that refused; then nothing lent is
+// changed.
 #![tactic(auto)]
 
 ghost use Rattle.std.specs.Prelude.{◌≡◌, length};
@@ -14,48 +14,42 @@ ghost use Rattle.outward.specs.Outward.{laid, header_words, descriptor_words, en
 ghost use Rattle.grid_calls.specs.Calls.{OpenCall, WalkCall};
 
 // The number of the layout of all that is lent: a caller that was built for another one lends nothing.
-#[unsafe(no_mangle)]
-pub extern "C" fn vdb_layout() -> u32
+pub fn vdb_layout() -> u32
     ensures { result ≡ layout }
 {
     words::layout()
 }
 
 // Opens the file.
-#[unsafe(no_mangle)]
-pub extern "C" fn vdb_open_file(s: &[u8], out: &mut [u64; 8]) -> u32
+pub fn vdb_open_file(s: &[u8], out: &mut [u64; 8]) -> u32
     ensures { (result, out.new) ≡ laid (open_file s.now) header_words out.old }
 {
     file_calls::open_file(s, out)
 }
 
 // The descriptor of the grid of this name.
-#[unsafe(no_mangle)]
-pub extern "C" fn vdb_grid_named(s: &[u8], name: &[u8], out: &mut [u64; 16]) -> u32
+pub fn vdb_grid_named(s: &[u8], name: &[u8], out: &mut [u64; 16]) -> u32
     ensures { (result, out.new) ≡ laid (grid_named s.now name.now) descriptor_words out.old }
 {
     file_calls::grid_named(s, name, out)
 }
 
 // The descriptor of the grid with this number, from 0.
-#[unsafe(no_mangle)]
-pub extern "C" fn vdb_grid_numbered(s: &[u8], n: u32, out: &mut [u64; 16]) -> u32
+pub fn vdb_grid_numbered(s: &[u8], n: u32, out: &mut [u64; 16]) -> u32
     ensures { (result, out.new) ≡ laid (grid_numbered s.now n) descriptor_words out.old }
 {
     file_calls::grid_numbered(s, n, out)
 }
 
 // An entry of the file's metadata.
-#[unsafe(no_mangle)]
-pub extern "C" fn vdb_file_entry(s: &[u8], name: &[u8], out: &mut [u64; 5]) -> u32
+pub fn vdb_file_entry(s: &[u8], name: &[u8], out: &mut [u64; 5]) -> u32
     ensures { (result, out.new) ≡ laid (file_entry s.now name.now) entry_words out.old }
 {
     file_calls::file_entry(s, name, out)
 }
 
 // An entry of the metadata of the grid of this name.
-#[unsafe(no_mangle)]
-pub extern "C" fn vdb_grid_entry_named(
+pub fn vdb_grid_entry_named(
     s: &[u8],
     grid: &[u8],
     name: &[u8],
@@ -67,16 +61,14 @@ pub extern "C" fn vdb_grid_entry_named(
 }
 
 // An entry of the metadata of the grid with this number, from 0.
-#[unsafe(no_mangle)]
-pub extern "C" fn vdb_grid_entry_numbered(s: &[u8], n: u32, name: &[u8], out: &mut [u64; 5]) -> u32
+pub fn vdb_grid_entry_numbered(s: &[u8], n: u32, name: &[u8], out: &mut [u64; 5]) -> u32
     ensures { (result, out.new) ≡ laid (grid_entry_numbered s.now n name.now) entry_words out.old }
 {
     file_calls::grid_entry_numbered(s, n, name, out)
 }
 
 // Opens the grid of this name.
-#[unsafe(no_mangle)]
-pub extern "C" fn vdb_open_grid_named(
+pub fn vdb_open_grid_named(
     s: &[u8],
     name: &[u8],
     out: &mut [u64; 32],
@@ -88,8 +80,7 @@ pub extern "C" fn vdb_open_grid_named(
 }
 
 // Opens the grid with this number, from 0.
-#[unsafe(no_mangle)]
-pub extern "C" fn vdb_open_grid_numbered(
+pub fn vdb_open_grid_numbered(
     s: &[u8],
     n: u32,
     out: &mut [u64; 32],
@@ -101,8 +92,7 @@ pub extern "C" fn vdb_open_grid_numbered(
 }
 
 // The walk call: the records that follow a place, into lent slots. Words of another layout are no place of these bytes.
-#[unsafe(no_mangle)]
-pub extern "C" fn vdb_walk(
+pub fn vdb_walk(
     s: &[u8],
     place: &mut [u64; 40],
     x: &mut [i32],
@@ -118,40 +108,35 @@ pub extern "C" fn vdb_walk(
 }
 
 // Writes the 512 values of a leaf, by its number from 0, of the grid of this name.
-#[unsafe(no_mangle)]
-pub extern "C" fn vdb_fill_leaf_named(s: &[u8], name: &[u8], number: u64, slots: &mut [u32]) -> u32
+pub fn vdb_fill_leaf_named(s: &[u8], name: &[u8], number: u64, slots: &mut [u32]) -> u32
     ensures { (result, slots.new) ≡ laid (fill_leaf_named s.now name.now number (length slots.old)) (λ values. values) slots.old }
 {
     leaf_calls::fill_leaf_named(s, name, number, slots)
 }
 
 // The same for the grid with this number, from 0.
-#[unsafe(no_mangle)]
-pub extern "C" fn vdb_fill_leaf_numbered(s: &[u8], n: u32, number: u64, slots: &mut [u32]) -> u32
+pub fn vdb_fill_leaf_numbered(s: &[u8], n: u32, number: u64, slots: &mut [u32]) -> u32
     ensures { (result, slots.new) ≡ laid (fill_leaf_numbered s.now n number (length slots.old)) (λ values. values) slots.old }
 {
     leaf_calls::fill_leaf_numbered(s, n, number, slots)
 }
 
 // Writes the values of the leaves from a number on, 512 slots each, of the grid of this name.
-#[unsafe(no_mangle)]
-pub extern "C" fn vdb_fill_leaves_named(s: &[u8], name: &[u8], first: u64, slots: &mut [u32]) -> u32
+pub fn vdb_fill_leaves_named(s: &[u8], name: &[u8], first: u64, slots: &mut [u32]) -> u32
     ensures { (result, slots.new) ≡ laid (fill_leaves_named s.now name.now first (length slots.old)) (λ values. values) slots.old }
 {
     leaf_calls::fill_leaves_named(s, name, first, slots)
 }
 
 // The same for the grid with this number, from 0.
-#[unsafe(no_mangle)]
-pub extern "C" fn vdb_fill_leaves_numbered(s: &[u8], n: u32, first: u64, slots: &mut [u32]) -> u32
+pub fn vdb_fill_leaves_numbered(s: &[u8], n: u32, first: u64, slots: &mut [u32]) -> u32
     ensures { (result, slots.new) ≡ laid (fill_leaves_numbered s.now n first (length slots.old)) (λ values. values) slots.old }
 {
     leaf_calls::fill_leaves_numbered(s, n, first, slots)
 }
 
 // Writes the origins of the leaves from a number on, into three slices of one length, of the grid of this name.
-#[unsafe(no_mangle)]
-pub extern "C" fn vdb_leaf_origins_named(
+pub fn vdb_leaf_origins_named(
     s: &[u8],
     name: &[u8],
     first: u64,
@@ -165,8 +150,7 @@ pub extern "C" fn vdb_leaf_origins_named(
 }
 
 // The same for the grid with this number, from 0.
-#[unsafe(no_mangle)]
-pub extern "C" fn vdb_leaf_origins_numbered(
+pub fn vdb_leaf_origins_numbered(
     s: &[u8],
     n: u32,
     first: u64,

@@ -1,22 +1,18 @@
-use borrow.Author.Rules.{rules}
-use mathlib.Core.Path.{◌≡◌, refl, sym, ◌∙◌}
-use mathlib.Core.Bool.{true}
-use Prim.Native.Nat.{◌+◌, ◌-◌, ◌*◌, ◌%◌, ◌<◌, ◌≤◌}
+-- Each turn hands out a word, and the whole is done where no word or no slot is left, or a value lies past the end.
+use mathlib.Core.Path.{refl, sym, ◌∙◌}
+use Prim.Native.Nat.{◌*◌, ◌<◌}
 use native.Mathlib.Omega.{arith}
 use borrow.Author.Tests.{not-true, not-false}
-use Rattle.slots.specs.Slots.{slots_of}
-use Rattle.slots.specs.Inner.{Room, Readable}
-use Rattle.bits.specs.Inner.{hand_out}
-use Rattle.records.specs.Inner.{Masks}
-use Rattle.slots.proofs.Laws.{Same, same, room-same}
-use Rattle.bits.proofs.Laws.{Going, starts, ends, ends_so, fills_same, hand-full, run_is}
+use Rattle.slots.proofs.Laws.{same, room-same}
+use Rattle.bits.proofs.Laws.{starts, ends, ends_so, fills_same, hand-full, run_is}
 use Rattle.records.proofs.Laws.{part-on, hand-readable, hand-masks, hand-done, word_on, word_cut, word-passed}
+use Rattle.records.proofs.fill_words.Goals.{Else-limit-t}
 use Rattle.records.proofs.fill_words.Goals as goal
 
 next_place : (c : goal.Else-limit-t) → c.loop-i.t.inside.from < 8 * c.args.n
 next_place c =
-    let c = c.loop-i in
-    omega (arith, c.loop-i-test.true, c.invariant.1.value.words, c.invariant.3, (c.invariant.4 c.if-limit-t.false).1)
+    let l = c.loop-i in
+    omega (arith, c.loop-i-test.true, l.invariant.1.value.words, l.invariant.3, (l.invariant.4 c.if-limit-t.false).1)
 
 pub loop-i-init : goal.loop-i-init
 loop-i-init c = let p = c.requires in (p.0, p.1, refl, omega arith, (λ l. (omega arith, omega arith)), p.3, same _, starts _ _ _)
@@ -44,38 +40,25 @@ loop-i-preserved c =
     let all = sym f.whole ∙ not-false _ c.if-not-t.false in
     let here = l.invariant.4 c.if-limit-t.false in
     let inside = next_place (goal.at.loop-i-preserved c).Else-limit-t in (
-      rw f.inside-1 (hand-readable _ _ _ _ _ _ (rw e.1 l.invariant.0)),
-      rw f.inside-1 (hand-masks _ _ _ _ _ (rw e.1 l.invariant.1)),
+      rw f.inside (hand-readable _ _ _ _ _ _ (rw e.1 l.invariant.0)),
+      rw f.inside (hand-masks _ _ _ _ _ (rw e.1 l.invariant.1)),
       not-false _ c.if-not-t.false,
       omega (arith, l.invariant.3),
       (λ k.
-          let p = word-passed _ _ _ l.t.inside-1 w.result e.1 e.2 l.invariant.1.value.words inside _ all (omega (arith, k, f.filled)) in
-          (rw f.inside-1 (omega (arith, p, here.0, here.1, l.invariant.3, e.2)), rw f.inside-1 (omega (arith, p, here.0, here.1, l.invariant.3, e.2)))),
+          let p = word-passed _ _ _ l.t.inside w.result e.1 e.2 l.invariant.1.value.words inside _ all (omega (arith, k, f.filled)) in
+          (rw f.inside (omega (arith, p, here.0, here.1, l.invariant.3, e.2)), rw f.inside (omega (arith, p, here.0, here.1, l.invariant.3, e.2)))),
       room-same (fills_same f (same _)) l.invariant.5,
       fills_same f l.invariant.6,
-      part-on _ _ _ _ f l.invariant.7 (word_on _ _ _ l.t.inside-1 w.result e.1 e.2 l.invariant.1.value.words inside _ all),
+      part-on _ _ _ _ f l.invariant.7 (word_on _ _ _ l.t.inside w.result e.1 e.2 l.invariant.1.value.words inside _ all),
     )
 
 pub returns-after-loop-i : goal.returns-after-loop-i
-returns-after-loop-i c = let l = c.loop-i in ends l.invariant.7 (hand-done _ _ _ l.t.filled _ l.t.inside-1 (λ k. omega (arith, (l.invariant.4 k).0))) (run_is refl l.invariant.2)
+returns-after-loop-i c =
+    let l = c.loop-i in
+    ends l.invariant.7 (hand-done _ _ _ l.t.filled _ l.t.inside (λ k. omega (arith, (l.invariant.4 k).0))) (run_is refl l.invariant.2)
 
 pub returns-then-limit-t : goal.returns-then-limit-t
-returns-then-limit-t c = let l = c.loop-i in ends l.invariant.7 (hand-full _ _ _ l.t.filled l.t.inside-1 _ c.if-limit-t.true) (run_is refl l.invariant.2)
-
-pub TODO-20 : goal.TODO-20
-TODO-20 c = (fills_same c.fill_word-t.ensures c.loop-i.invariant.6).in-x
-
-pub TODO-21 : goal.TODO-21
-TODO-21 c = (fills_same c.fill_word-t.ensures c.loop-i.invariant.6).in-y
-
-pub TODO-22 : goal.TODO-22
-TODO-22 c = (fills_same c.fill_word-t.ensures c.loop-i.invariant.6).in-z
-
-pub TODO-23 : goal.TODO-23
-TODO-23 c = (fills_same c.fill_word-t.ensures c.loop-i.invariant.6).in-level
-
-pub TODO-24 : goal.TODO-24
-TODO-24 c = (fills_same c.fill_word-t.ensures c.loop-i.invariant.6).in-value
+returns-then-limit-t c = let l = c.loop-i in ends l.invariant.7 (hand-full _ _ _ l.t.filled l.t.inside _ c.if-limit-t.true) (run_is refl l.invariant.2)
 
 pub returns-then-not-t : goal.returns-then-not-t
 returns-then-not-t c =
@@ -83,4 +66,4 @@ returns-then-not-t c =
     let l = c.loop-i in
     let f = c.fill_word-t.ensures in
     let e = w.ensures in
-    ends_so f l.invariant.7 (word_cut _ _ _ l.t.inside-1 w.result e.1 e.2 l.invariant.1.value.words (next_place (goal.at.returns-then-not-t c).Else-limit-t) _ (sym f.whole ∙ not-true _ c.if-not-t.true))
+    ends_so f l.invariant.7 (word_cut _ _ _ l.t.inside w.result e.1 e.2 l.invariant.1.value.words (next_place (goal.at.returns-then-not-t c).Else-limit-t) _ (sym f.whole ∙ not-true _ c.if-not-t.true))

@@ -1,17 +1,13 @@
 -- The invariant: what is left to hand out from here is the whole; where slots are left, i is the word of the next place.
-use borrow.Author.Rules.{rules}
-use mathlib.Core.Path.{◌≡◌, refl, sym, ◌∙◌}
+use mathlib.Core.Path.{◌≡◌}
 use mathlib.Core.Bool.{true}
 use Prim.Native.Nat.{◌+◌, ◌-◌, ◌*◌, ◌%◌, ◌<◌, ◌≤◌}
-use native.Mathlib.Omega.{arith}
-use borrow.Author.Tests.{not-true, not-false}
 use Rattle.slots.specs.Slots.{slots_of}
 use Rattle.slots.specs.Inner.{Room, Readable}
 use Rattle.bits.specs.Inner.{hand_out}
 use Rattle.records.specs.Inner.{Masks}
-use Rattle.slots.proofs.Laws.{Same, same, room-same}
-use Rattle.bits.proofs.Laws.{Going, starts, ends, ends_so, fills_same, hand-full, run_is}
-use Rattle.records.proofs.Laws.{part-on, hand-readable, hand-masks, hand-done, word_on, word_cut, word-passed}
+use Rattle.slots.proofs.Laws.{Same}
+use Rattle.bits.proofs.Laws.{Going}
 use Rattle.records.proofs.fill_words.Given as goal
 
 abbrev pub invariant-loop-i : goal.invariant-loop-i

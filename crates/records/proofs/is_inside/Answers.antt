@@ -1,5 +1,4 @@
 -- Each way out is one law: the value mask, the child mask, the number of stored places, and at last the origin.
-use borrow.Author.Rules.{rules}
 use native.Mathlib.Omega.{arith}
 use Rattle.records.proofs.Pieces.{no-value-mask, no-child-mask, no_number, by-origin}
 use Rattle.records.proofs.is_inside.Goals as goal

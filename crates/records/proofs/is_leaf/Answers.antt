@@ -1,5 +1,4 @@
 -- Each way out is one law: it is no leaf, it is stored otherwise, the values are too few, or all is there.
-use borrow.Author.Rules.{rules}
 use native.Mathlib.Omega.{arith}
 use Rattle.records.proofs.Ways.{no-leaf, no-stored, no_room, is-there}
 use Rattle.records.proofs.is_leaf.Goals as goal
