@@ -3,13 +3,12 @@ use mathlib.Core.Path.{◌≡◌, refl, sym, ap, ◌∙◌}
 use mathlib.Core.List.{List, [], map}
 use mathlib.Core.Bool.{true}
 use mathlib.Core.Option.{Option, none, some}
-use Prim.Native.Nat.{ℕ, ◌-◌, ◌*◌, ◌≤◌}
+use Prim.Native.Nat.{ℕ, ◌-◌, ◌≤◌}
 use native.Mathlib.Omega.{arith}
 use lib.Dec.{eqb}
 use lib.ListN.{length}
 use Rattle.fields.specs.Parse.{Parse, got, fails, then}
 use Rattle.fields.proofs.Laws.{check-passes, through, then-got, then-fails, made_at}
-use Rattle.half.specs.Inner.{IsWidth}
 use Rattle.fields.specs.Answer.{Answer, gives, refuses, answer, with}
 use Rattle.archive.specs.Archive.{present, file_asked}
 use Rattle.archive.specs.declared.Asked.{Asked}
@@ -34,7 +33,7 @@ use Rattle.skip.specs.Inner.{Skip, before, ended, refused, skip_from}
 use Rattle.skip.proofs.Laws.{records_in, leaves_in, skip-refused, skip-ended}
 use Rattle.skip.proofs.Few.{few-records, few-leaves}
 use Rattle.place.proofs.Places.{after_none}
-use Rattle.grid.specs.Grid.{Grid, is_float_tree, coding_of, root_limit, content_field, grid_field, grid, active_of, place_after, opened_of, open_grid}
+use Rattle.grid.specs.Grid.{Grid, is_float_tree, coding_of, root_limit, content_field, grid_field, grid, place_after, opened_of, open_grid}
 use Rattle.grid.specs.Inner.{content_of, content_with, read_tree, read_content, read_grid, look, opened_by}
 use Rattle.grid.specs.declared.Content.{Content}
 

@@ -1,6 +1,6 @@
 -- Inner matter: only contracts of inner functions cite it, and nothing here has to be believed.
-use Rattle.std.specs.Prelude.{ℕ, List, [], not, eqb, length}
-use Rattle.fields.specs.Parse.{Parse, got, then, check}
+use Rattle.std.specs.Prelude.{ℕ, List, [], length}
+use Rattle.fields.specs.Parse.{Parse, got, then}
 use Rattle.fields.specs.Answer.{Answer, gives, refuses, with}
 use Rattle.header.specs.declared.ArchiveHeader.{ArchiveHeader}
 use Rattle.descriptor.specs.declared.GridDescriptor.{GridDescriptor}

@@ -1,14 +1,13 @@
 -- What the call does, and that this is what it promises.
 use mathlib.Core.Path.{◌≡◌, refl, sym, ap, subst, ◌∙◌}
 use mathlib.Core.List.{List, []}
-use mathlib.Core.Bool.{Bool, true, false, ◌||◌, true≢false}
+use mathlib.Core.Bool.{Bool, true, false, true≢false}
 use Prim.Native.Nat.{ℕ, ◌+◌, ◌-◌, ◌≤◌, ◌<◌, min}
 use native.Mathlib.Omega.{arith}
-use lib.Dec.{eqb, lit≤}
+use lib.Dec.{eqb}
 use lib.ListN.{length}
 use borrow.Author.Tests.{ne_eqb, eqb-true, eqb-false}
 use Rattle.fields.specs.Parse.{when}
-use Rattle.half.specs.Inner.{IsWidth}
 use Rattle.fields.specs.Answer.{Answer, gives, refuses}
 use Rattle.slots.specs.Slots.{Slots, slot_count, laid_from}
 use Rattle.slots.specs.Inner.{Room}

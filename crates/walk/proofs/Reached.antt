@@ -1,15 +1,14 @@
 -- From a place of a grid the call hands out the next records, and stands at the place after these.
 use mathlib.Core.Path.{◌≡◌, refl, sym, ap, subst, ◌∙◌}
 use mathlib.Core.List.{List, [], ◌∷◌}
-use mathlib.Core.Bool.{Bool, true, false, ◌||◌}
+use mathlib.Core.Bool.{Bool, true, false}
 use Prim.Native.Nat.{ℕ, ◌+◌, ◌-◌, ◌≤◌, min}
 use native.Mathlib.Nat.{add-zero}
 use native.Mathlib.Omega.{arith}
 use lib.Dec.{eqb}
 use lib.ListN.{length, take, drop, length-take, length-drop}
-use borrow.Author.Tests.{eqb-true, eqb-false}
+use borrow.Author.Tests.{eqb-true}
 use Rattle.fields.specs.Parse.{when}
-use Rattle.half.specs.Inner.{IsWidth}
 use Rattle.fields.specs.Answer.{gives, refuses}
 use Rattle.tree.specs.Active.{Record}
 use Rattle.slots.specs.Slots.{Slots, slot_count, laid_from}
@@ -21,7 +20,7 @@ use Rattle.place.proofs.Places.{after_more, after-records}
 use Rattle.grid.specs.Grid.{Grid, active_of, start_of, place_after}
 use Rattle.grid.proofs.Coverage.{GridRead}
 use Rattle.walk.specs.Walk.{says_walk, next_records, walked_to}
-use Rattle.walk.specs.Inner.{is_wide, wanted, course_from, found, stands, walk_from, Does}
+use Rattle.walk.specs.Inner.{wanted, course_from, found, stands, walk_from, Does}
 use Rattle.walk.specs.declared.WalkAnswer.{WalkAnswer}
 use Rattle.walk.proofs.Demand3.{take-there}
 use Rattle.walk.proofs.Wide.{wide_is}

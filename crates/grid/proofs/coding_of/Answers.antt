@@ -1,5 +1,4 @@
 -- The width is the half entry's; all else is copied.
-use borrow.Author.Rules.{rules}
 use mathlib.Core.Path.{ap}
 use Prim.Native.Nat.{ℕ}
 use Rattle.grid.proofs.coding_of.Goals as goal
@@ -7,4 +6,4 @@ use Rattle.grid.proofs.coding_of.Goals as goal
 pub returns : goal.returns
 returns c =
     let a = c.args in
-    (ap (λ (w : ℕ). record { version = a.h.file_version; flags = a.d.compression; width = w; background = a.head.background }) c.width_of_lem.ensures.0, c.width_of_lem.ensures.1)
+    (ap (λ (w : ℕ). record { version = a.h.file_version; flags = a.d.compression; width = w; background = a.head.background }) c.width_of.ensures.0, c.width_of.ensures.1)

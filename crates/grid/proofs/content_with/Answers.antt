@@ -1,5 +1,4 @@
 -- The content is made of what is given, and of the coding.
-use borrow.Author.Rules.{rules}
 use Rattle.grid.proofs.content_with.Goals as goal
 
 pub returns : goal.returns

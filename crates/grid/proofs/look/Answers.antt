@@ -1,5 +1,4 @@
 -- The file is opened, then the grid that was found.
-use borrow.Author.Rules.{rules}
 use mathlib.Core.Path.{ap, ◌∙◌}
 use Rattle.fields.proofs.Laws.{told}
 use Rattle.archive.specs.Inner.{says_file, says_found_grid}

@@ -1,5 +1,4 @@
 -- A walk starts from what is found of the grid.
-use borrow.Author.Rules.{rules}
 use mathlib.Core.Path.{ap, ◌∙◌}
 use Rattle.fields.proofs.Laws.{told}
 use Rattle.fields.specs.Answer.{gives}

@@ -1,5 +1,4 @@
 -- The place is the fresh one of the content's start.
-use borrow.Author.Rules.{rules}
 use Rattle.grid.proofs.opened.Goals as goal
 
 pub returns : goal.returns

@@ -1,5 +1,4 @@
 -- The transform, what stands before the roots, and the tree, one after the other.
-use borrow.Author.Rules.{rules}
 use mathlib.Core.Path.{refl, ◌∙◌, ap}
 use Rattle.fields.proofs.Laws.{then-got, then-fails, told}
 use Rattle.fields.specs.Answer.{answer}

@@ -1,5 +1,4 @@
 -- The topology is passed, and then all pieces; what is left of the budgets tells how many records and leaves there are.
-use borrow.Author.Rules.{rules}
 use mathlib.Core.Path.{◌≡◌, ap, ◌∙◌}
 use Rattle.fields.proofs.Laws.{told}
 use Rattle.fields.specs.Answer.{gives, answer}
@@ -8,17 +7,15 @@ use Rattle.skip.specs.Inner.{says_skip}
 use Rattle.skip.specs.declared.Skipped.{Skipped}
 use Rattle.grid.specs.Inner.{content_with, read_tree}
 use Rattle.grid.proofs.Laws.{counted, tree-short, tree-passed}
+use Rattle.grid.proofs.read_tree.Goals.{After-skip}
 use Rattle.grid.proofs.read_tree.Goals as goal
 
-abbrev start : goal.After-skip → goal.Start
-start x = x
-
 -- the answer of passing all pieces tells the content
-all_told : (x : goal.After-skip) {v : Skipped} → x.skip.result ≡ v → let a = (start x).args in
-    counted (content_with a.h a.d a.map a.end a.head x.in-Got.topology_end-1) (says_skip v)
+all_told : (x : After-skip) {v : Skipped} → x.skip.result ≡ v → let a = x.args in
+    counted (content_with a.h a.d a.map a.end a.head x.in-Got.topology_end) (says_skip v)
     ≡ answer (read_tree a.s.now a.h a.d a.map a.end a.head a.head.roots_pos)
 all_told x e =
-    tree-passed _ _ _ _ _ _ _ x.coding_of-coding.ensures.0 (start x).requires
+    tree-passed _ _ _ _ _ _ _ x.coding_of-coding.ensures.0 x.requires
     (told says_end x.in-Got.is x.pass_roots.ensures) x.between_roots-first.ensures (told says_skip e x.skip.ensures)
 
 pub returns-in-Refused : goal.returns-in-Refused

@@ -1,5 +1,4 @@
 -- The width is 2 where the entry says true, and 4 where it says false; where it says nothing the type's ending decides. Both are widths.
-use borrow.Author.Rules.{rules}
 use mathlib.Core.Path.{◌≡◌, refl, ap, ◌∙◌}
 use Prim.Native.Nat.{ℕ}
 use Rattle.descriptor.specs.declared.HalfEntry.{HalfEntry}

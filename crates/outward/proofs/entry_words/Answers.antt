@@ -16,29 +16,29 @@ returns-in-Bool c = entry-by c.in-Bool.is refl
 
 pub returns-in-I32 : goal.returns-in-I32
 returns-in-I32 c =
-    let v = c.v-in-I32-1.given in
-    let e : to_z w32 (of_z w32 v.0.0) ≡ v.0.0 = search rules in
-    entry-by v.1 (λ i. 2 ∷ (c.coord_word.ensures.0 ∙ ap pattern e) i ∷ 0 ∷ 0 ∷ 0 ∷ [])
+    let v = c.in-I32 in
+    let e : to_z w32 (of_z w32 v.n) ≡ v.n = search rules in
+    entry-by v.is (λ i. 2 ∷ (c.coord_word.ensures.0 ∙ ap pattern e) i ∷ 0 ∷ 0 ∷ 0 ∷ [])
 
 pub returns-in-I64 : goal.returns-in-I64
 returns-in-I64 c =
-    let v = c.v-in-I64-1.given in
-    let e : to_z w64 (of_z w64 v.0.0) ≡ v.0.0 = search rules in
-    entry-by v.1 (λ i. 3 ∷ (c.pattern_of.ensures ∙ ap pattern e) i ∷ 0 ∷ 0 ∷ 0 ∷ [])
+    let v = c.in-I64 in
+    let e : to_z w64 (of_z w64 v.n) ≡ v.n = search rules in
+    entry-by v.is (λ i. 3 ∷ (c.pattern_of.ensures ∙ ap pattern e) i ∷ 0 ∷ 0 ∷ 0 ∷ [])
 
 pub returns-in-Float : goal.returns-in-Float
 returns-in-Float c = entry-by c.in-Float.is refl
 
 pub returns-in-Vec3i : goal.returns-in-Vec3i
 returns-in-Vec3i c =
-    let v = c.v-in-Vec3i-1.given in
-    let x : to_z w32 (of_z w32 v.0.0.x) ≡ v.0.0.x = search rules in
-    let y : to_z w32 (of_z w32 v.0.0.y) ≡ v.0.0.y = search rules in
-    let z : to_z w32 (of_z w32 v.0.0.z) ≡ v.0.0.z = search rules in
+    let v = c.in-Vec3i in
+    let x : to_z w32 (of_z w32 v.v.x) ≡ v.v.x = search rules in
+    let y : to_z w32 (of_z w32 v.v.y) ≡ v.v.y = search rules in
+    let z : to_z w32 (of_z w32 v.v.z) ≡ v.v.z = search rules in
     let a = c.coord_word-in-Vec3i.ensures.0 ∙ ap pattern x in
     let b = c.coord_word-in-Vec3i-2.ensures.0 ∙ ap pattern y in
     let d = c.coord_word-in-Vec3i-3.ensures.0 ∙ ap pattern z in
-    entry-by v.1 (λ i. 5 ∷ a i ∷ b i ∷ d i ∷ 0 ∷ [])
+    entry-by v.is (λ i. 5 ∷ a i ∷ b i ∷ d i ∷ 0 ∷ [])
 
 pub returns-in-Unknown : goal.returns-in-Unknown
 returns-in-Unknown c = entry-by c.in-Unknown.is refl

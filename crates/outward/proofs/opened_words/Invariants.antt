@@ -1,12 +1,9 @@
 -- The invariant: the first six words are as they were, and behind them stand the doubles passed.
-use borrow.Author.Rules.{rules}
-use mathlib.Core.List.{List, [], ◌∷◌, ◌++◌}
-use mathlib.Core.Path.{◌≡◌, refl, ap, ◌∙◌}
-use Prim.Native.Nat.{ℕ, ◌+◌, ◌-◌, ◌*◌, ◌≤◌}
-use native.Mathlib.Omega.{arith}
-use lib.ListN.{length, take, length-set}
-use Rattle.outward.specs.Outward.{double_at, table, opened_words}
-use Rattle.outward.proofs.Laws.{table_more, table-all}
+use mathlib.Core.List.{◌++◌}
+use mathlib.Core.Path.{◌≡◌}
+use Prim.Native.Nat.{◌+◌, ◌-◌, ◌≤◌}
+use lib.ListN.{length, take}
+use Rattle.outward.specs.Outward.{double_at, table}
 use Rattle.outward.proofs.opened_words.Given as goal
 
 abbrev pub invariant-loop-i : goal.invariant-loop-i

@@ -1,5 +1,4 @@
 -- The record is that of the definition, once the number for the stored places is.
-use borrow.Author.Rules.{rules}
 use Rattle.place.proofs.enter.Goals as goal
 
 pub returns : goal.returns

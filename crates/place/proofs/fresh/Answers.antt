@@ -1,5 +1,4 @@
 -- The record is that of the definition, once the cursor between roots is.
-use borrow.Author.Rules.{rules}
 use Rattle.place.proofs.fresh.Goals as goal
 
 pub returns : goal.returns

@@ -1,14 +1,11 @@
 -- The invariant: what is left to hand out from here is the whole. The loop ends because behind each piece less is to come.
-use borrow.Author.Rules.{rules}
 use Prim.Native.Nat.{◌-◌}
 use lib.ListN.{length}
-use Rattle.fields.proofs.Laws.{told}
 use Rattle.slots.specs.Slots.{slots_of}
 use Rattle.slots.specs.Inner.{Room}
-use Rattle.slots.proofs.Laws.{Same, same, room-same}
-use Rattle.bits.proofs.Laws.{fills_same}
-use Rattle.place.specs.Inner.{listing_from, hand_on, says_stand}
-use Rattle.place.proofs.Laws.{Coming, comes, stops_so, goes-next}
+use Rattle.slots.proofs.Laws.{Same}
+use Rattle.place.specs.Inner.{listing_from, hand_on}
+use Rattle.place.proofs.Laws.{Coming}
 use Rattle.place.proofs.hand_pieces.Given as goal
 
 abbrev pub invariant-loop-next : goal.invariant-loop-next

@@ -1,5 +1,4 @@
 -- A width is 2 or 4.
-use borrow.Author.Rules.{rules}
 use native.Mathlib.Omega.{arith}
 use borrow.Author.Tests.{eqb-true, eq-eqb}
 use Rattle.place.proofs.is_wide.Goals as goal

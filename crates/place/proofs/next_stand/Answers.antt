@@ -1,5 +1,4 @@
 -- Each way out is one law: not all was whole, all slots are filled, no piece comes, or the next one is entered.
-use borrow.Author.Rules.{rules}
 use borrow.Author.Tests.{not-true, not-false}
 use Rattle.fields.proofs.Laws.{told}
 use Rattle.place.specs.Inner.{says_listed}

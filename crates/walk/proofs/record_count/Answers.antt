@@ -1,12 +1,12 @@
 -- The calls give the shortest of the five lengths, and the test gives the smaller of this and what is left.
-use borrow.Author.Rules.{rules}
 use native.Mathlib.Omega.{arith}
 use mathlib.Core.Path.{◌≡◌, ap, ◌∙◌}
 use Prim.Native.Nat.{ℕ, ◌≤◌, ◌<◌, min}
+use Rattle.walk.proofs.record_count.Goals.{After-smaller-slots}
 use Rattle.walk.proofs.record_count.Goals as goal
 
 -- the shortest
-slots : (c : goal.After-smaller-slots) → let a = c.args in c.smaller-slots.result ≡ min a.x (min a.y (min a.z (min a.level a.value)))
+slots : (c : After-smaller-slots) → let a = c.args in c.smaller-slots.result ≡ min a.x (min a.y (min a.z (min a.level a.value)))
 slots c =
     let a = c.args in
     c.smaller-slots.ensures ∙ ap (min a.x) (c.smaller-3.ensures ∙ ap (min a.y) (c.smaller-2.ensures ∙ ap (min a.z) c.smaller.ensures))

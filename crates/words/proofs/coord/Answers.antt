@@ -1,5 +1,4 @@
 -- A coordinate is the low half of its word, signed.
-use borrow.Author.Rules.{rules}
 use mathlib.Core.Path.{ap, ◌∙◌}
 use mir.Syntax.{w32}
 use Rattle.fields.specs.Le.{signed}

@@ -1,5 +1,4 @@
 -- A coordinate made wider has the same pattern, and comes back from the low half.
-use borrow.Author.Rules.{rules}
 use mathlib.Core.Path.{ap, ◌∙◌}
 use Prim.Native.Nat.{ℕ}
 use mir.Facts.{to_z-of_z, sfits_widen}

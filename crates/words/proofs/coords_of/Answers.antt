@@ -1,5 +1,4 @@
 -- Each coordinate is what its word stands for.
-use borrow.Author.Rules.{rules}
 use mathlib.Core.Path.{◌∙◌}
 use mir.Syntax.{w32}
 use Rattle.fields.proofs.Laws.{kept}

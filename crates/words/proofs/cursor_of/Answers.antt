@@ -1,8 +1,7 @@
 -- The two nodes and each smaller number are what their words stand for.
-use borrow.Author.Rules.{rules}
 use Rattle.words.specs.Words.{cursor_by}
 use Rattle.words.proofs.cursor_of.Goals as goal
 
 pub returns : goal.returns
 unfolding cursor_by
-returns c = rw (c.Entered-of.ensures, c.entered_of-node4.ensures, c.low.ensures, c.low-2.ensures)
+returns c = rw (c.entered_of-node5.ensures, c.entered_of-node4.ensures, c.low.ensures, c.low-2.ensures)

@@ -1,5 +1,4 @@
 -- The two nodes and each smaller number come back from their words.
-use borrow.Author.Rules.{rules}
 use mathlib.Core.List.{[], ◌∷◌}
 use Rattle.words.specs.Words.{at, cursor_by}
 use Rattle.words.proofs.cursor_words.Goals as goal

@@ -1,5 +1,4 @@
 -- The origin is what its three words stand for.
-use borrow.Author.Rules.{rules}
 use Rattle.words.proofs.entered_of.Goals as goal
 
 pub returns : goal.returns

@@ -1,5 +1,4 @@
 -- The origin comes back from its own words, the place from its low half.
-use borrow.Author.Rules.{rules}
 use mathlib.Core.List.{[], ◌∷◌}
 use Rattle.words.specs.Words.{at}
 use Rattle.words.proofs.entered_words.Goals as goal

@@ -1,5 +1,4 @@
 -- The origin and each smaller number are what their words stand for.
-use borrow.Author.Rules.{rules}
 use Rattle.words.specs.Words.{inside_by}
 use Rattle.words.proofs.inside_of.Goals as goal
 

@@ -1,5 +1,4 @@
 -- The origin and each smaller number come back from their words.
-use borrow.Author.Rules.{rules}
 use mathlib.Core.List.{[], ◌∷◌}
 use Rattle.words.specs.Words.{at, inside_by}
 use Rattle.words.proofs.inside_words.Goals as goal

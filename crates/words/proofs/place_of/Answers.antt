@@ -1,8 +1,7 @@
 -- Each part is what its own words stand for.
-use borrow.Author.Rules.{rules}
 use Rattle.words.specs.Words.{place_by}
 use Rattle.words.proofs.place_of.Goals as goal
 
 pub returns : goal.returns
 unfolding place_by
-returns c = rw (c.start_of_lem.ensures, c.cursor_of-cursor.ensures, c.inside_of-inside.ensures)
+returns c = rw (c.start_of-start.ensures, c.cursor_of-cursor.ensures, c.inside_of-inside.ensures)

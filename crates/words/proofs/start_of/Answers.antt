@@ -1,5 +1,4 @@
 -- Each smaller number is what its word stands for.
-use borrow.Author.Rules.{rules}
 use Rattle.words.specs.Words.{start_by}
 use Rattle.words.proofs.start_of.Goals as goal
 

@@ -1,5 +1,4 @@
 -- Each smaller number comes back from its word.
-use borrow.Author.Rules.{rules}
 use mathlib.Core.List.{[], ◌∷◌}
 use Rattle.words.specs.Words.{start_by}
 use Rattle.words.proofs.start_words.Goals as goal

@@ -1,5 +1,4 @@
 -- The words are those of the parts, one part behind the other, and each part comes back from its own.
-use borrow.Author.Rules.{rules}
 use mathlib.Core.List.{[], ◌∷◌}
 use mathlib.Core.Path.{refl}
 use Rattle.words.specs.Words.{at, layout, start_by, place_by, words_of, cursor_by, inside_by}
@@ -14,10 +13,10 @@ returns c =
     let w = c.inside_words-w.ensures in (
       λ i.
           layout ∷ at (t.0 i) 0 ∷ at (t.0 i) 1 ∷ at (t.0 i) 2 ∷ at (t.0 i) 3 ∷ at (t.0 i) 4
-          ∷ at (t.0 i) 5 ∷ at (t.0 i) 6 ∷ at (t.0 i) 7 ∷ at (t.0 i) 8 ∷ at (t.0 i) 9 ∷ p.false
+          ∷ at (t.0 i) 5 ∷ at (t.0 i) 6 ∷ at (t.0 i) 7 ∷ at (t.0 i) 8 ∷ at (t.0 i) 9 ∷ p.left
           ∷ at (x.0 i) 0 ∷ at (x.0 i) 1 ∷ at (x.0 i) 2 ∷ at (x.0 i) 3 ∷ at (x.0 i) 4 ∷ at (x.0 i) 5 ∷ at (x.0 i) 6
           ∷ at (x.0 i) 7 ∷ at (x.0 i) 8 ∷ at (x.0 i) 9 ∷ at (x.0 i) 10 ∷ at (x.0 i) 11 ∷ at (x.0 i) 12 ∷ at (x.0 i) 13
           ∷ at (w.0 i) 0 ∷ at (w.0 i) 1 ∷ at (w.0 i) 2 ∷ at (w.0 i) 3 ∷ at (w.0 i) 4
           ∷ at (w.0 i) 5 ∷ at (w.0 i) 6 ∷ at (w.0 i) 7 ∷ at (w.0 i) 8 ∷ at (w.0 i) 9 ∷ 0 ∷ 0 ∷ 0 ∷ 0 ∷ [],
-      (refl, λ i. record { start = t.1 i; left = p.false; cursor = x.1 i; inside = w.1 i }),
+      (refl, λ i. record { start = t.1 i; left = p.left; cursor = x.1 i; inside = w.1 i }),
     )
