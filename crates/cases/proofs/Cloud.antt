@@ -34,7 +34,6 @@ use Rattle.tree.specs.Blocks.{filled4, filled5, blocks_field}
 use Rattle.tree.specs.Active.{Record, Piece, edge_of, side_of, pieces4, pieces5, pieces, record_at, records_of, all_blocks}
 use Rattle.tree.specs.Inner.{kept}
 use Rattle.metadata.specs.Metadata.{latest}
-use Rattle.header.specs.Header.{header}
 use Rattle.header.specs.declared.ArchiveHeader.{ArchiveHeader}
 use Rattle.descriptor.specs.declared.GridDescriptor.{GridDescriptor}
 use Rattle.descriptor.specs.declared.HalfEntry.TheVariants as Half

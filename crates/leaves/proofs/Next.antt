@@ -19,7 +19,7 @@ use Rattle.tree.specs.Inner.{record_count, leaf_count}
 use Rattle.tree.proofs.Counting.{total, total-append}
 use Rattle.cursor.specs.Inner.{Rest, Stop, stop, to_come, HeldPiece}
 use Rattle.cursor.specs.declared.Cursor.{Cursor}
-use Rattle.skip.specs.Inner.{Skip, before, ended, refused, skipping, skip_from}
+use Rattle.skip.specs.Inner.{before, ended, refused, skipping, skip_from}
 use Rattle.skip.proofs.Laws.{records_in, leaves_in, skip-stops}
 use Rattle.leaves.specs.Inner.{leaves_among, leaves_from}
 

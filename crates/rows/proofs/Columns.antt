@@ -2,7 +2,7 @@
 use mathlib.Core.Path.{◌≡◌, refl, ap, ◌∙◌}
 use mathlib.Core.List.{List, [], ◌∷◌, ◌++◌, map}
 use Prim.Native.Nat.{ℕ, zero, suc, ◌+◌, ◌-◌, ◌≤◌, ◌<◌}
-use native.Mathlib.Nat.{add-zero, sub-zero}
+use native.Mathlib.Nat.{add-zero}
 use native.Mathlib.Numerals.{add-one}
 use native.Mathlib.Omega.{arith}
 use lib.IntN.{ℤ, pos}
@@ -47,9 +47,6 @@ pub record Storing (t : Slots) (n : ℕ) (row₀ row : List Row) (i : ℕ) : Typ
   pub all : sets row i (map row_of (rows t i (n - i))) ≡ sets row₀ 0 (map row_of (rows t 0 n))
 
 module _ (t : Slots) (n : ℕ) (row₀ : List Row) where
-  pub storing : Storing t n row₀ row₀ 0
-  storing = record { most = omega arith; all = rw sub-zero }
-
   pub stores : (row : List Row) (i : ℕ) {x y z : ℤ} → i < n → Storing t n row₀ row i → x ≡ get_or t.x i (pos 0) → y ≡ get_or t.y i (pos 0) → z ≡ get_or t.z i (pos 0) →
       Storing t n row₀ (set row i (record { x = x; y = y; z = z; level = get_or t.level i 0; value = get_or t.value i 0 })) (i + 1)
   unfolding rows

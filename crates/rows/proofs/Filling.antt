@@ -23,89 +23,83 @@ held r = take r.count r.rows
 
 module _ (s : List ℕ) (p : Place) (xs : List Row) where
   -- The row xs while it is filled: i slots are, and j records of this portion are stored; it is ys now. rs are all records up to the portion's end.
-  pub record Filling : Type 0 where
-    pub portion : Portion
-    pub i : ℕ
-    pub j : ℕ
-    pub ys : List Row
+  pub record Filling (portion : Portion) (i j : ℕ) (ys : List Row) : Type 0 where
     pub rs : List Record
     pub long : length ys ≡ length xs
     pub few : length rs ≤ length xs
     pub there : portion.count ≤ length portion.rows
+    pub small : portion.count ≤ 64
     pub room : i + (portion.count - j) ≡ length rs
     pub goes-out : portion.count ≤ j → portion.count ≡ 0
     pub storing : sets ys i (drop j (held portion)) ≡ sets xs 0 (map row_of rs)
     pub goes_on : Goes s p (length xs) portion rs
 
   -- the portion is there, and nothing of it is stored
-  module _ (q : Portion) (i : ℕ) (ys : List Row) (rs more : List Record) (long : length ys ≡ length xs) (at-end : i ≡ length rs) (few : length (rs ++ more) ≤ length xs)
-      (stored : ys ≡ sets xs 0 (map row_of rs)) (count : q.count ≡ length more) (rows : held q ≡ map row_of more) (goes_on : Goes s p (length xs) q (rs ++ more)) where
-    abbrev filling : Filling
-    filling =
-        record {
-          portion = q;
-          i = i;
-          j = 0;
-          ys = ys;
-          rs = rs ++ more;
-          long = long;
-          few = few;
-          there = omega (arith, length-take q.count q.rows, ap length rows ∙ length-map more row_of);
-          room = rw length-append (omega arith);
-          goes-out = λ h. omega arith;
-          storing = rw (rows, stored, at-end, map-append, sets-append, length-map, zero-add);
-          goes_on = goes_on;
-        }
+  filling :
+      (q : Portion) (i : ℕ) (ys : List Row) (rs more : List Record) → length ys ≡ length xs → i ≡ length rs → length (rs ++ more) ≤ length xs → length more ≤ 64 →
+      ys ≡ sets xs 0 (map row_of rs) → q.count ≡ length more → held q ≡ map row_of more → Goes s p (length xs) q (rs ++ more) → Filling q i 0 ys
+  filling q i ys rs more long at-end few small stored count rows goes_on =
+      record {
+        rs = rs ++ more;
+        long = long;
+        few = few;
+        there = omega (arith, length-take q.count q.rows, ap length rows ∙ length-map more row_of);
+        small = omega arith;
+        room = rw length-append (omega arith);
+        goes-out = λ h. omega arith;
+        storing = rw (rows, stored, at-end, map-append, sets-append, length-map, zero-add);
+        goes_on = goes_on;
+      }
 
-  abbrev pub begin : (q : Portion) → Portioned s (start p) (length xs) q → Filling
+  pub begin : (q : Portion) → Portioned s (start p) (length xs) q → Filling q 0 0 xs
   begin q d =
       let f = says-few s p _ _ _ d.says in
-      filling q 0 xs [] d.records refl refl (omega (arith, f)) refl d.count d.rows (goes s p (length xs) (start p) [] refl (whole-start s p (length xs)) q d)
+      filling q 0 xs [] d.records refl refl (omega (arith, f)) (omega (arith, f)) refl d.count d.rows (goes s p (length xs) (start p) [] refl (whole-start s p (length xs)) q d)
 
-  module _ (f : Filling) (h : f.j < f.portion.count) (d : Row) where
-    abbrev now : Row
-    now = get_or f.portion.rows f.j d
+  module _ {portion : Portion} {i j : ℕ} {ys : List Row} (f : Filling portion i j ys) (h : j < portion.count) where
+    pub in_portion : j < 64
+    in_portion = omega (arith, f.small)
 
-    abbrev ys' : List Row
-    ys' = set f.ys f.i now
+    module _ (d : Row) where
+      abbrev ys' : List Row
+      ys' = set ys i (get_or portion.rows j d)
 
-    -- one more is stored
-    pub stored : sets ys' (f.i + 1) (drop (f.j + 1) (held f.portion)) ≡ sets xs 0 (map row_of f.rs)
-    stored =
-        let l : f.j < length (held f.portion) = omega (arith, length-take f.portion.count f.portion.rows, f.there) in
-        let e = drop-cons (held f.portion) f.j d l in
-        let g = get_or-take f.portion.count f.portion.rows f.j d h in
-        rw (add-one f.i, add-one f.j, ← g) (rw e at f.storing)
+      -- one more is stored
+      stored : sets ys' (i + 1) (drop (j + 1) (held portion)) ≡ sets xs 0 (map row_of f.rs)
+      stored =
+          let l : j < length (held portion) = omega (arith, length-take portion.count portion.rows, f.there) in
+          let e = drop-cons (held portion) j d l in
+          let g = get_or-take portion.count portion.rows j d h in
+          rw (add-one i, add-one j, ← g) (rw e at f.storing)
 
-    abbrev pub step : (f.j + 1 ≡ f.portion.count → ⊥) → Filling
-    step n =
-        record {
-          portion = f.portion;
-          i = f.i + 1;
-          j = f.j + 1;
-          ys = ys';
-          rs = f.rs;
-          long = length-set f.ys f.i now ∙ f.long;
-          few = f.few;
-          there = f.there;
-          room = omega (arith, f.room);
-          goes-out = λ k. absurd (n (omega arith));
-          storing = stored;
-          goes_on = f.goes_on;
-        }
+      pub step : (j + 1 ≡ portion.count → ⊥) → Filling portion (i + 1) (j + 1) ys'
+      step n =
+          record {
+            rs = f.rs;
+            long = length-set ys i (get_or portion.rows j d) ∙ f.long;
+            few = f.few;
+            there = f.there;
+            small = f.small;
+            room = omega (arith, f.room);
+            goes-out = λ k. absurd (n (omega arith));
+            storing = stored;
+            goes_on = f.goes_on;
+          }
 
-    abbrev pub refill : f.j + 1 ≡ f.portion.count → (q : Portion) → Portioned s f.portion.past (length xs) q → Filling
-    refill e q a =
-        let g = f.goes_on in
-        let some : 0 < f.portion.count = omega arith in
-        let z : drop (f.j + 1) (held f.portion) ≡ [] = drop_of_length-le (held f.portion) {i = f.j + 1} (omega (arith, length-take f.portion.count f.portion.rows)) in
-        let k = says-few s _ _ _ _ a.says in
-        filling q (f.i + 1) ys' f.rs a.records (length-set f.ys f.i now ∙ f.long) (omega (arith, f.room)) (rw length-append (omega (arith, k, g.filled some, f.few)))
-        (rw z at stored) a.count a.rows (goes s p (length xs) f.portion.past f.rs (g.filled some) (g.whole some) q a)
+      pub refill : j + 1 ≡ portion.count → (q : Portion) → Portioned s portion.past (length ys') q → Filling q (i + 1) 0 ys'
+      refill e q b =
+          let long : length ys' ≡ length xs = length-set ys i (get_or portion.rows j d) ∙ f.long in
+          let a = rw long at b in
+          let g = f.goes_on in
+          let some : 0 < portion.count = omega arith in
+          let z : drop (j + 1) (held portion) ≡ [] = drop_of_length-le (held portion) {i = j + 1} (omega (arith, length-take portion.count portion.rows)) in
+          let k = says-few s _ _ _ _ a.says in
+          filling q (i + 1) ys' f.rs a.records long (omega (arith, f.room)) (rw length-append (omega (arith, k, g.filled some, f.few))) (omega (arith, k))
+          (rw z at stored) a.count a.rows (goes s p (length xs) portion.past f.rs (g.filled some) (g.whole some) q a)
 
   -- nothing is left
-  pub done : (f : Filling) → f.portion.count ≤ f.j → Promise s p (columns xs) f.portion.answer (columns f.ys)
-  done f h =
+  pub done : {portion : Portion} {i j : ℕ} {ys : List Row} → Filling portion i j ys → portion.count ≤ j → Promise s p (columns xs) portion.answer (columns ys)
+  done {portion} {i} {j} {ys} f h =
       let z = f.goes-out h in
-      let e : f.ys ≡ sets xs 0 (map row_of f.rs) = rw (drop_of_length-le (held f.portion) {i = f.j} (omega (arith, length-take f.portion.count f.portion.rows))) at f.storing in
+      let e : ys ≡ sets xs 0 (map row_of f.rs) = rw (drop_of_length-le (held portion) {i = j} (omega (arith, length-take portion.count portion.rows))) at f.storing in
       promise-of {rs = f.rs} (rw columns-count (f.goes_on.over z)) (rw e (columns-sets xs 0 f.rs))

@@ -1,7 +1,7 @@
 -- What one call of the core hands out is a portion.
 use mathlib.Core.Path.{◌≡◌, refl, sym, ap, ◌∙◌}
 use mathlib.Core.List.{List, [], ◌++◌, map}
-use Prim.Native.Nat.{ℕ, zero, suc, ◌+◌, ◌-◌, ◌≤◌, ◌<◌, ◌^◌, min}
+use Prim.Native.Nat.{ℕ, zero, suc, ◌+◌, ◌-◌, ◌≤◌, ◌<◌, min}
 use native.Mathlib.Omega.{arith}
 use lib.IntN.{ℤ}
 use lib.ListN.{length, take, drop, replicate, length-take, get_or-append}
@@ -26,9 +26,6 @@ pub scratch-back : (k : ℕ) (v : List ℕ) → length v ≡ length (take k zero
 scratch-back k v e = length_front zeros v k e
 
 -- how many slots of it are lent
-pub cut-count : (k m : ℕ) → k ≡ min 64 m → k ≡ length (take k zeros)
-cut-count k m e = omega (arith, length-take k zeros)
-
 pub lent-count : (k m : ℕ) → k ≡ min 64 m → min 64 (min 64 (min 64 (min 64 (length (take k zeros))))) ≡ min 64 m
 lent-count k m e = omega (arith, length-take k zeros)
 
@@ -37,9 +34,6 @@ lent-long k m v e f = omega (arith, length-take k zeros)
 
 pub few-slots : (f m x y z level value : ℕ) → f ≤ min 64 m → x ≡ 64 → y ≡ 64 → z ≡ 64 → level ≡ 64 → value ≡ 64 → (f ≤ 64) × (f ≤ min x (min y (min z (min level value))))
 few-slots f m x y z level value h a b c d e = (omega (arith, h), omega (arith, h, a, b, c, d, e))
-
-pub sum_fits : (a f n : ℕ) → f ≤ min 64 (n - a) → n < 2 ^ 64 → a < 2 ^ 64 → a + f < 2 ^ 64
-sum_fits a f n h k l = omega (arith, h, k, l)
 
 -- the first slots are the same where a slice goes on behind them
 rows-front : (x y z : List ℤ) (level value more : List ℕ) (i n : ℕ) → i + n ≤ length value → rows (slots_of x y z level (value ++ more)) i n ≡ rows (slots_of x y z level value) i n

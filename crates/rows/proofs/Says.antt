@@ -134,7 +134,7 @@ module _ {s : List ℕ} {p : Place} {k n : ℕ} {v : Walked} {rs : List Record} 
   join (HasWalked u) more b =
       let l = (q.some-records v refl).0 in
       let c = b.some-records u refl in
-      let behind = left-joined (q.left_behind v refl) (b.left_behind u refl) some-filled in
+      let behind : LeftBehind p n (counted v u) = left-joined (q.left_behind v refl) (b.left_behind u refl) some-filled in
       walks (counted v u) (rs ++ more) (rw length-append (omega arith)) (omega (arith, few)) behind (λ asked name g m e i f.
       let d = q.reached asked name g m e i f in
       let first = next_records s g m k in

@@ -38,7 +38,7 @@ use Rattle.nodes.specs.declared.Leaf.{Leaf}
 use Rattle.roots.specs.Roots.{root_count_field, tiles_field, tree_head_field, origin_field}
 use Rattle.roots.specs.Roots as R
 use Rattle.tree.specs.Topology.{Node4, Node5, leaf_field, node4_field, node5_field, root_field, roots_field}
-use Rattle.tree.specs.Blocks.{filled4, filled5, blocks_field}
+use Rattle.tree.specs.Blocks.{filled4, filled5}
 use Rattle.grid.specs.Grid.{coding_of, root_limit, content_field, grid_field, grid, open_grid}
 use Rattle.grid.specs.declared.OpenedGrid.{OpenedGrid}
 use Rattle.leaves.specs.Leaves.{leaf_numbered, present_leaf, fill_leaf, fill_leaves}

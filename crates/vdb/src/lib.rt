@@ -49,12 +49,7 @@ pub fn vdb_file_entry(s: &[u8], name: &[u8], out: &mut [u64; 5]) -> u32
 }
 
 // An entry of the metadata of the grid of this name.
-pub fn vdb_grid_entry_named(
-    s: &[u8],
-    grid: &[u8],
-    name: &[u8],
-    out: &mut [u64; 5],
-) -> u32
+pub fn vdb_grid_entry_named(s: &[u8], grid: &[u8], name: &[u8], out: &mut [u64; 5]) -> u32
     ensures { (result, out.new) ≡ laid (grid_entry_named s.now grid.now name.now) entry_words out.old }
 {
     file_calls::grid_entry_named(s, grid, name, out)
@@ -68,24 +63,14 @@ pub fn vdb_grid_entry_numbered(s: &[u8], n: u32, name: &[u8], out: &mut [u64; 5]
 }
 
 // Opens the grid of this name.
-pub fn vdb_open_grid_named(
-    s: &[u8],
-    name: &[u8],
-    out: &mut [u64; 32],
-    place: &mut [u64; 40],
-) -> u32
+pub fn vdb_open_grid_named(s: &[u8], name: &[u8], out: &mut [u64; 32], place: &mut [u64; 40]) -> u32
     ensures { OpenCall s.now (open_grid_named s.now name.now) out.old place.old result out.new place.new }
 {
     grid_calls::open_grid_named(s, name, out, place)
 }
 
 // Opens the grid with this number, from 0.
-pub fn vdb_open_grid_numbered(
-    s: &[u8],
-    n: u32,
-    out: &mut [u64; 32],
-    place: &mut [u64; 40],
-) -> u32
+pub fn vdb_open_grid_numbered(s: &[u8], n: u32, out: &mut [u64; 32], place: &mut [u64; 40]) -> u32
     ensures { OpenCall s.now (open_grid_numbered s.now n) out.old place.old result out.new place.new }
 {
     grid_calls::open_grid_numbered(s, n, out, place)

@@ -1,5 +1,4 @@
 -- The answer's words are laid into what was lent, or nothing is.
-use borrow.Author.Rules.{rules}
 use Rattle.answers.specs.Answers.{says_descriptor_answer}
 use Rattle.outward.proofs.Laid.{laying, laid_by}
 use Rattle.file_calls.proofs.grid_named.Goals as goal

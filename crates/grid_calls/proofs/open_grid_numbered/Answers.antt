@@ -1,5 +1,4 @@
 -- The words of the opened grid and of its place are laid into what was lent, or nothing is.
-use borrow.Author.Rules.{rules}
 use mathlib.Core.List.{[]}
 use Rattle.archive.specs.declared.Asked.TheVariants as A
 use Rattle.fields.proofs.Laws.{told}

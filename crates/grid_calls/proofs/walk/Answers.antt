@@ -1,17 +1,15 @@
 -- Words of another layout are refused, and from any others the walk's own answer is laid into what was lent.
-use borrow.Author.Rules.{rules}
-use borrow.Author.Tests.{not-true, not-false}
 use mathlib.Core.Path.{sym, ◌∙◌}
 use Rattle.grid_calls.proofs.Laws.{walk-foreign, walk_refused, walk-gave}
 use Rattle.grid_calls.proofs.walk.Goals as goal
 
 pub returns-then-not-has_layout : goal.returns-then-not-has_layout
-returns-then-not-has_layout c = walk-foreign _ _ (sym c.has_layout.ensures ∙ not-true _ c.if-not-has_layout.true)
+returns-then-not-has_layout c = walk-foreign _ _ (sym c.has_layout.ensures ∙ c.if-not-has_layout.true)
 
 pub returns-in-Refused : goal.returns-in-Refused
 returns-in-Refused c =
-    walk_refused _ _ (sym c.has_layout.ensures ∙ not-false _ c.if-not-has_layout.false) c.place_of.ensures c.walk.ensures c.in-Refused.is
+    walk_refused _ _ (sym c.has_layout.ensures ∙ c.if-not-has_layout.false) c.place_of.ensures c.walk.ensures c.in-Refused.is
 
 pub returns-in-Walked : goal.returns-in-Walked
 returns-in-Walked c =
-    walk-gave _ _ (sym c.has_layout.ensures ∙ not-false _ c.if-not-has_layout.false) c.place_of.ensures c.walk.ensures c.in-Walked.is c.words_of.ensures
+    walk-gave _ _ (sym c.has_layout.ensures ∙ c.if-not-has_layout.false) c.place_of.ensures c.walk.ensures c.in-Walked.is c.words_of.ensures

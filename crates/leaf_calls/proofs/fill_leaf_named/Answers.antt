@@ -1,5 +1,4 @@
 -- The fill's own answer, as a number.
-use borrow.Author.Rules.{rules}
 use Rattle.leaf_calls.proofs.Laws.{fill-refused, fill-filled}
 use Rattle.leaf_calls.proofs.fill_leaf_named.Goals as goal
 

@@ -1,5 +1,4 @@
 -- The answer is laid out as a fill's is.
-use borrow.Author.Rules.{rules}
 use Rattle.leaf_calls.proofs.Laws.{fill-refused, fill-filled}
 use Rattle.leaf_calls.proofs.leaf_origins_numbered.Goals as goal
 

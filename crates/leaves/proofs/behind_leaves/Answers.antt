@@ -1,5 +1,4 @@
 -- Before all leaves this is the start; else the pass stops at the last of the first ones, since there are more leaves, and goes on behind it.
-use borrow.Author.Rules.{rules}
 use mathlib.Core.Path.{◌≡◌}
 use mathlib.Core.List.{List}
 use Prim.Native.Nat.{ℕ, suc, ◌-◌, ◌≤◌, ◌<◌}
@@ -25,7 +24,7 @@ module _ (s : List ℕ) (t : Start) {x : Cursor} (e : x ≡ start_cursor t) {fir
     more : first - 1 < length (leaves_from s t.coding x)
     more = rw e (omega (arith, h.there, some))
 
-    behind : {u : Stop} {n k : ℕ} → before u n k ≡ skip_from s t.coding most (first - 1) x → leaves_from s t.coding u.behind-1 ≡ drop first (leaves_from s t.coding (start_cursor t))
+    behind : {u : Stop} {n k : ℕ} → before u n k ≡ skip_from s t.coding most (first - 1) x → leaves_from s t.coding u.behind ≡ drop first (leaves_from s t.coding (start_cursor t))
     behind d =
         let m : suc (first - 1) ≡ first = omega (arith, some) in
         rw (m, e) at (leaves-behind s t.coding (first - 1) x (next-leaf s t.coding h.width x few (first - 1) d))

@@ -1,5 +1,4 @@
 -- Each test by itself.
-use borrow.Author.Rules.{rules}
 use Rattle.fields.specs.Parse.{when}
 use Rattle.leaves.proofs.right_slots.Goals as goal
 

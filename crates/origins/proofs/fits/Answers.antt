@@ -1,5 +1,4 @@
 -- The three tests, one after the other.
-use borrow.Author.Rules.{rules}
 use borrow.Author.Tests.{ne_eqb, eq-eqb}
 use Rattle.origins.proofs.fits.Goals as goal
 

@@ -1,10 +1,7 @@
 -- What is left to store from here comes to the whole.
-use borrow.Author.Rules.{rules, sfits_of}
-use native.Mathlib.Omega.{arith}
-use Prim.Native.Nat.{◌-◌}
-use mir.Facts.{to_z-of_z}
+use Rattle.std.proofs.Common.{◌-◌}
 use Rattle.slots.specs.Slots.{slots_of}
-use Rattle.rows.proofs.Columns.{Storing, storing, stores, stored}
+use Rattle.rows.proofs.Columns.{Storing}
 use Rattle.rows.proofs.in_a_row.Given as goal
 
 abbrev pub invariant-loop-i : goal.invariant-loop-i
