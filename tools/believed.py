@@ -39,6 +39,8 @@ CALLS = [
     'reader::new', 'reader::read_u32', 'reader::read_i_vec3', 'reader::read_d_vec3', 'reader::read_string', 'reader::read_name',
     'reader::read_names', 'reader::read_versions',
 ]
+# What C and Rust link has an export for each call of vdb.
+CALLS += [call.replace('vdb::', 'vdb_c::') for call in CALLS if call.startswith('vdb::')]
 
 # Theorems that a reader is pointed to, by crate and name: of these, the statement is looked at, with the
 # parameters of the sections that it stands in. What is written of one function's proof, below proofs/FUNCTION/, is not searched.
