@@ -7,41 +7,44 @@ ghost use Rattle.std.specs.Prelude.{◌≤◌};
 use asking::show;
 use grid::{GridAnswer, OpenedGrid};
 use place::Place;
+use std::io::{self, BufWriter, Read, Write};
 use walk::WalkAnswer;
 
-fn refused(k: u32) {
-    show::text(b"refused");
-    show::small(k);
-    show::letter(b'\n');
+fn refused(out: &mut impl Write, k: u32) -> io::Result<()> {
+    show::text(out, b"refused")?;
+    show::small(out, k)?;
+    show::letter(out, b'\n')
 }
 
-fn record(x: i32, y: i32, z: i32, level: u32, value: u32) {
-    show::plain32(x);
-    show::signed32(y);
-    show::signed32(z);
-    show::small(level);
-    show::pattern(value);
-    show::letter(b'\n');
+fn record(out: &mut impl Write, x: i32, y: i32, z: i32, level: u32, value: u32) -> io::Result<()> {
+    show::plain32(out, x)?;
+    show::signed32(out, y)?;
+    show::signed32(out, z)?;
+    show::small(out, level)?;
+    show::pattern(out, value)?;
+    show::letter(out, b'\n')
 }
 
 // The records in the first slots.
 fn records(
+    out: &mut impl Write,
     x: &[i32; 64],
     y: &[i32; 64],
     z: &[i32; 64],
     level: &[u32; 64],
     value: &[u32; 64],
     filled: usize,
-)
+) -> io::Result<()>
     requires { filled ≤ 64 }
 {
     for i in 0..filled {
-        record(x[i], y[i], z[i], level[i], value[i]);
+        record(out, x[i], y[i], z[i], level[i], value[i])?;
     }
+    Ok(())
 }
 
 // The records that follow a place, as many as there are slots for.
-fn portion(s: &[u8], p: Place) -> WalkAnswer {
+fn portion(out: &mut impl Write, s: &[u8], p: Place) -> io::Result<WalkAnswer> {
     let mut x = [0i32; 64];
     let mut y = [0i32; 64];
     let mut z = [0i32; 64];
@@ -49,52 +52,54 @@ fn portion(s: &[u8], p: Place) -> WalkAnswer {
     let mut value = [0u32; 64];
     let answer = walk::walk(s, p, &mut x, &mut y, &mut z, &mut level, &mut value);
     match answer {
-        WalkAnswer::Walked(w) => records(&x, &y, &z, &level, &value, w.filled),
-        WalkAnswer::Refused(k) => refused(k),
+        WalkAnswer::Walked(w) => records(out, &x, &y, &z, &level, &value, w.filled)?,
+        WalkAnswer::Refused(k) => refused(out, k)?,
     }
-    answer
+    Ok(answer)
 }
 
 // All records, portion by portion. Each portion but the last is full, so there are at most so many of them; the loop is bounded by that number to show
 // that it ends.
-fn list(s: &[u8], fresh: Place, count: u64) {
+fn list(out: &mut impl Write, s: &[u8], fresh: Place, count: u64) -> io::Result<()> {
     let mut p = fresh;
     for _ in 0..count / 64 + 1 {
-        match portion(s, p) {
+        match portion(out, s, p)? {
             WalkAnswer::Walked(w) => {
                 if w.left == 0 {
-                    return;
+                    return Ok(());
                 }
-                let next = w.place;
-                p = next;
+                p = w.place;
             }
-            WalkAnswer::Refused(_) => return,
+            WalkAnswer::Refused(_) => return Ok(()),
         }
     }
+    Ok(())
 }
 
-fn list_grid(s: &[u8], g: OpenedGrid) {
-    show::text(b"records");
-    show::number(g.active_count);
-    show::letter(b'\n');
-    let fresh = g.place;
-    list(s, fresh, g.active_count);
+fn list_grid(out: &mut impl Write, s: &[u8], g: OpenedGrid) -> io::Result<()> {
+    show::text(out, b"records")?;
+    show::number(out, g.active_count)?;
+    show::letter(out, b'\n')?;
+    list(out, s, g.place, g.active_count)
 }
 
-fn list_file(s: &[u8]) {
+fn list_file(out: &mut impl Write, s: &[u8]) -> io::Result<()> {
     match grid::open_grid_numbered(s, 0) {
-        GridAnswer::Grid(g) => list_grid(s, g),
-        GridAnswer::Refused(k) => refused(k),
+        GridAnswer::Grid(g) => list_grid(out, s, g),
+        GridAnswer::Refused(k) => refused(out, k),
     }
 }
 
-// One byte more than a file may have is room enough to see that it is too long.
-fn main() {
-    let mut t = [0u8; 65537];
-    let n = io::read_full(0, &mut t);
-    if n > 65536 {
-        show::text(b"too long\n");
+// One byte more than a file may have is enough to see that it is too long.
+fn main(rt: HostRuntime) -> io::Result<()> {
+    let alloc = rt.alloc();
+    let mut t = Vec::new(alloc);
+    rt.reader().take(65537).read_to_end(&mut t)?;
+    let mut out = BufWriter::new(alloc, io::writer(&rt))?;
+    if t.len() > 65536 {
+        show::text(&mut out, b"too long\n")?;
     } else {
-        list_file(&t[..n]);
+        list_file(&mut out, &t)?;
     }
+    out.flush()
 }

@@ -20,69 +20,70 @@ use fields::Span;
 use leaves::FillAnswer;
 use line::Line;
 use metadata::MetadataValue;
+use std::io::{self, Write};
 use transform::{Map, MapField, Scale, ScaleTranslate};
 
-fn header(s: &[u8]) {
+fn header(out: &mut impl Write, s: &[u8]) -> io::Result<()> {
     match answers::open_file(s) {
-        HeaderAnswer::Refused(k) => show::refused(k),
+        HeaderAnswer::Refused(k) => show::refused(out, k),
         HeaderAnswer::Header(h) => {
-            show::small(h.file_version);
-            show::small(h.library_version_major);
-            show::small(h.library_version_minor);
-            show::flag(h.packed);
-            show::size(h.meta_pos);
-            show::small(h.grid_count);
-            show::span(s, h.guid);
+            show::small(out, h.file_version)?;
+            show::small(out, h.library_version_major)?;
+            show::small(out, h.library_version_minor)?;
+            show::flag(out, h.packed)?;
+            show::size(out, h.meta_pos)?;
+            show::small(out, h.grid_count)?;
+            show::span(out, s, h.guid)
         }
     }
 }
 
-fn descriptor(a: DescriptorAnswer, s: &[u8]) {
+fn descriptor(out: &mut impl Write, a: DescriptorAnswer, s: &[u8]) -> io::Result<()> {
     match a {
-        DescriptorAnswer::Refused(k) => show::refused(k),
+        DescriptorAnswer::Refused(k) => show::refused(out, k),
         DescriptorAnswer::Descriptor(d) => {
-            show::span(s, d.name);
-            show::span(s, d.grid_type);
-            show::span(s, d.instance_parent);
-            show::size(d.grid_pos);
-            show::size(d.block_pos);
-            show::size(d.end_pos);
-            show::small(d.compression);
+            show::span(out, s, d.name)?;
+            show::span(out, s, d.grid_type)?;
+            show::span(out, s, d.instance_parent)?;
+            show::size(out, d.grid_pos)?;
+            show::size(out, d.block_pos)?;
+            show::size(out, d.end_pos)?;
+            show::small(out, d.compression)?;
             let half = d.half;
             let kind = d.kind;
-            show::size(grid::width_of(half, kind));
-            show::size(d.meta_pos);
-            show::size(d.tree_pos);
+            show::size(out, grid::width_of(half, kind))?;
+            show::size(out, d.meta_pos)?;
+            show::size(out, d.tree_pos)
         }
     }
 }
 
-fn other(s: &[u8], k: Span, w: Span) {
-    show::span(s, k);
-    show::span(s, w);
+fn other(out: &mut impl Write, s: &[u8], k: Span, w: Span) -> io::Result<()> {
+    show::span(out, s, k)?;
+    show::span(out, s, w)
 }
 
-fn number(v: MetadataValue) {
+fn number(out: &mut impl Write, v: MetadataValue) -> io::Result<()> {
     match v {
-        MetadataValue::Bool(b) => show::flag(b),
-        MetadataValue::I32(n) => show::signed32(n),
-        MetadataValue::I64(n) => show::signed(n),
-        MetadataValue::Float(n) => show::pattern(n),
-        _ => {}
+        MetadataValue::Bool(b) => show::flag(out, b),
+        MetadataValue::I32(n) => show::signed32(out, n),
+        MetadataValue::I64(n) => show::signed(out, n),
+        MetadataValue::Float(n) => show::pattern(out, n),
+        _ => Ok(()),
     }
 }
 
-fn value(v: MetadataValue, s: &[u8]) {
+fn value(out: &mut impl Write, v: MetadataValue, s: &[u8]) -> io::Result<()> {
     match v {
-        MetadataValue::String(w) => show::span(s, w),
-        MetadataValue::Vec3i(v) => show::i_vec3(v),
-        MetadataValue::Unknown(k, w) => other(s, k, w),
-        _ => number(v),
+        MetadataValue::String(w) => show::span(out, s, w),
+        MetadataValue::Vec3i(v) => show::i_vec3(out, v),
+        MetadataValue::Unknown(k, w) => other(out, s, k, w),
+        _ => number(out, v),
     }
 }
 
 // The kind of a value, by a letter.
-fn kind(v: MetadataValue) -> u8 {
+fn kind(v: &MetadataValue) -> u8 {
     match v {
         MetadataValue::String(_) => b's',
         MetadataValue::Bool(_) => b'b',
@@ -94,73 +95,85 @@ fn kind(v: MetadataValue) -> u8 {
     }
 }
 
-fn entry(a: EntryAnswer, s: &[u8]) {
+fn entry(out: &mut impl Write, a: EntryAnswer, s: &[u8]) -> io::Result<()> {
     match a {
-        EntryAnswer::Refused(k) => show::refused(k),
+        EntryAnswer::Refused(k) => show::refused(out, k),
         EntryAnswer::Value(v) => {
-            show::tag(kind(v));
-            value(v, s);
+            show::tag(out, kind(&v))?;
+            value(out, v, s)
         }
     }
 }
 
-fn scale(m: Scale) {
-    show::d_vec3(m.scale_values);
-    show::d_vec3(m.voxel_size);
-    show::d_vec3(m.scale_values_inverse);
-    show::d_vec3(m.inv_scale_sqr);
-    show::d_vec3(m.inv_twice_scale);
+fn scale(out: &mut impl Write, m: Scale) -> io::Result<()> {
+    show::d_vec3(out, m.scale_values)?;
+    show::d_vec3(out, m.voxel_size)?;
+    show::d_vec3(out, m.scale_values_inverse)?;
+    show::d_vec3(out, m.inv_scale_sqr)?;
+    show::d_vec3(out, m.inv_twice_scale)
 }
 
-fn scale_translate(m: ScaleTranslate) {
-    show::d_vec3(m.translation);
-    show::d_vec3(m.scale_values);
-    show::d_vec3(m.voxel_size);
-    show::d_vec3(m.scale_values_inverse);
-    show::d_vec3(m.inv_scale_sqr);
-    show::d_vec3(m.inv_twice_scale);
+fn scale_translate(out: &mut impl Write, m: ScaleTranslate) -> io::Result<()> {
+    show::d_vec3(out, m.translation)?;
+    show::d_vec3(out, m.scale_values)?;
+    show::d_vec3(out, m.voxel_size)?;
+    show::d_vec3(out, m.scale_values_inverse)?;
+    show::d_vec3(out, m.inv_scale_sqr)?;
+    show::d_vec3(out, m.inv_twice_scale)
 }
 
 // The map and its vectors in the order of the struct.
-fn map(m: Map) {
+fn map(out: &mut impl Write, m: Map) -> io::Result<()> {
     match m {
         Map::UniformScaleMap(v) => {
-            show::tag(b's');
-            scale(v);
+            show::tag(out, b's')?;
+            scale(out, v)
         }
         Map::ScaleTranslateMap(v) => {
-            show::tag(b't');
-            scale_translate(v);
+            show::tag(out, b't')?;
+            scale_translate(out, v)
         }
     }
 }
 
-fn transform(s: &[u8], at: usize) {
+fn transform(out: &mut impl Write, s: &[u8], at: usize) -> io::Result<()> {
     match transform::read_transform(s, at) {
         MapField::Got(m, p) => {
-            map(m);
-            show::size(p);
+            map(out, m)?;
+            show::size(out, p)
         }
-        MapField::Refused(k) => show::refused(k),
+        MapField::Refused(k) => show::refused(out, k),
     }
 }
 
-fn counts(background: u32, roots: u32, leaves: u64, records: u64) {
-    show::pattern(background);
-    show::small(roots);
-    show::number(leaves);
-    show::number(records);
+fn counts(
+    out: &mut impl Write,
+    background: u32,
+    roots: u32,
+    leaves: u64,
+    records: u64,
+) -> io::Result<()> {
+    show::pattern(out, background)?;
+    show::small(out, roots)?;
+    show::number(out, leaves)?;
+    show::number(out, records)
 }
 
-fn open(a: grid::GridAnswer) {
+fn open(out: &mut impl Write, a: grid::GridAnswer) -> io::Result<()> {
     match a {
-        grid::GridAnswer::Refused(k) => show::refused(k),
+        grid::GridAnswer::Refused(k) => show::refused(out, k),
         grid::GridAnswer::Grid(g) => {
             let m = g.transform;
-            map(m);
+            map(out, m)?;
             let p = g.place;
             let start = p.start;
-            counts(g.background, start.root_count, g.leaf_count, g.active_count);
+            counts(
+                out,
+                g.background,
+                start.root_count,
+                g.leaf_count,
+                g.active_count,
+            )
         }
     }
 }
@@ -180,10 +193,10 @@ pub fn file_cut(s: &[u8], i: usize) -> u64 {
     }
 }
 
-fn filled(a: FillAnswer) {
+fn filled(out: &mut impl Write, a: FillAnswer) -> io::Result<()> {
     match a {
-        FillAnswer::Refused(k) => show::refused(k),
-        FillAnswer::Filled => show::tag(b'f'),
+        FillAnswer::Refused(k) => show::refused(out, k),
+        FillAnswer::Filled => show::tag(out, b'f'),
     }
 }
 
@@ -235,9 +248,16 @@ fn lend(
     }
 }
 
-fn ask_fill(command: u8, words: usize, s: &[u8], name: &[u8], n: &[u64; 8]) {
+fn ask_fill(
+    out: &mut impl Write,
+    command: u8,
+    words: usize,
+    s: &[u8],
+    name: &[u8],
+    n: &[u64; 8],
+) -> io::Result<()> {
     let mut slots = [7u32; 1600];
-    filled(lend(
+    let answer = lend(
         command,
         words,
         s,
@@ -246,92 +266,122 @@ fn ask_fill(command: u8, words: usize, s: &[u8], name: &[u8], n: &[u64; 8]) {
         n[1],
         &mut slots,
         n[2] as usize,
-    ));
-    series::ask(command, s, &slots, 0, 1600);
+    );
+    filled(out, answer)?;
+    series::ask(out, command, s, &slots, 0, 1600)
 }
 
-fn ask_row(command: u8, s: &[u8], n: &[u64; 8]) {
+fn ask_row(out: &mut impl Write, command: u8, s: &[u8], n: &[u64; 8]) -> io::Result<()> {
     let slots = [0u32; 1600];
-    series::ask(command, s, &slots, n[1] as usize, n[2] as usize);
+    series::ask(out, command, s, &slots, n[1] as usize, n[2] as usize)
 }
 
 fn low(n: u64) -> u32 {
     (n % 4294967296) as u32
 }
 
-fn descriptor_numbered(s: &[u8], k: u32) {
-    descriptor(answers::grid_numbered(s, k), s);
+fn descriptor_numbered(out: &mut impl Write, s: &[u8], k: u32) -> io::Result<()> {
+    descriptor(out, answers::grid_numbered(s, k), s)
 }
 
-fn descriptor_named(s: &[u8], name: &[u8]) {
-    descriptor(answers::grid_named(s, name), s);
+fn descriptor_named(out: &mut impl Write, s: &[u8], name: &[u8]) -> io::Result<()> {
+    descriptor(out, answers::grid_named(s, name), s)
 }
 
-fn file_entry(s: &[u8], name: &[u8]) {
-    entry(answers::file_entry(s, name), s);
+fn file_entry(out: &mut impl Write, s: &[u8], name: &[u8]) -> io::Result<()> {
+    entry(out, answers::file_entry(s, name), s)
 }
 
-fn entry_numbered(s: &[u8], k: u32, name: &[u8]) {
-    entry(answers::grid_entry_numbered(s, k, name), s);
+fn entry_numbered(out: &mut impl Write, s: &[u8], k: u32, name: &[u8]) -> io::Result<()> {
+    entry(out, answers::grid_entry_numbered(s, k, name), s)
 }
 
-fn entry_named(s: &[u8], grid: &[u8], name: &[u8]) {
-    entry(answers::grid_entry_named(s, grid, name), s);
+fn entry_named(out: &mut impl Write, s: &[u8], grid: &[u8], name: &[u8]) -> io::Result<()> {
+    entry(out, answers::grid_entry_named(s, grid, name), s)
 }
 
-fn open_numbered(s: &[u8], k: u32) {
-    open(grid::open_grid_numbered(s, k));
+fn open_numbered(out: &mut impl Write, s: &[u8], k: u32) -> io::Result<()> {
+    open(out, grid::open_grid_numbered(s, k))
 }
 
-fn open_named(s: &[u8], name: &[u8]) {
-    open(grid::open_grid_named(s, name));
+fn open_named(out: &mut impl Write, s: &[u8], name: &[u8]) -> io::Result<()> {
+    open(out, grid::open_grid_named(s, name))
 }
 
 // A grid by its number.
-fn ask_numbered(command: u8, s: &[u8], k: u32, name: &[u8]) {
+fn ask_numbered(
+    out: &mut impl Write,
+    command: u8,
+    s: &[u8],
+    k: u32,
+    name: &[u8],
+) -> io::Result<()> {
     match command {
-        b'd' => descriptor_numbered(s, k),
-        b'm' => entry_numbered(s, k, name),
-        _ => open_numbered(s, k),
+        b'd' => descriptor_numbered(out, s, k),
+        b'm' => entry_numbered(out, s, k, name),
+        _ => open_numbered(out, s, k),
     }
 }
 
 // A grid by its name.
-fn ask_named(command: u8, s: &[u8], grid: &[u8], name: &[u8]) {
+fn ask_named(
+    out: &mut impl Write,
+    command: u8,
+    s: &[u8],
+    grid: &[u8],
+    name: &[u8],
+) -> io::Result<()> {
     match command {
-        b'd' => descriptor_named(s, name),
-        b'm' => entry_named(s, grid, name),
-        _ => open_named(s, name),
+        b'd' => descriptor_named(out, s, name),
+        b'm' => entry_named(out, s, grid, name),
+        _ => open_named(out, s, name),
     }
 }
 
-fn ask_grid(command: u8, words: usize, s: &[u8], k: u32, grid: &[u8], name: &[u8]) {
+fn ask_grid(
+    out: &mut impl Write,
+    command: u8,
+    words: usize,
+    s: &[u8],
+    k: u32,
+    grid: &[u8],
+    name: &[u8],
+) -> io::Result<()> {
     if words == 1 {
-        return ask_numbered(command, s, k, name);
+        return ask_numbered(out, command, s, k, name);
     }
-    ask_named(command, s, grid, name);
+    ask_named(out, command, s, grid, name)
 }
 
-fn ask_command(command: u8, words: usize, s: &[u8], grid: &[u8], name: &[u8], n: &[u64; 8]) {
+fn ask_command(
+    out: &mut impl Write,
+    command: u8,
+    words: usize,
+    s: &[u8],
+    grid: &[u8],
+    name: &[u8],
+    n: &[u64; 8],
+) -> io::Result<()> {
     match command {
-        b'h' => header(s),
-        b'e' => file_entry(s, name),
-        b'd' | b'm' | b'o' => ask_grid(command, words, s, low(n[1]), grid, name),
-        b'f' | b'v' | b'j' => ask_fill(command, words, s, name, n),
-        b'c' | b't' => ask_row(command, s, n),
-        b'O' => corners::ask(words, s, name, n),
-        b'T' => transform(s, n[1] as usize),
-        _ => {}
+        b'h' => header(out, s),
+        b'e' => file_entry(out, s, name),
+        b'd' | b'm' | b'o' => ask_grid(out, command, words, s, low(n[1]), grid, name),
+        b'f' | b'v' | b'j' => ask_fill(out, command, words, s, name, n),
+        b'c' | b't' => ask_row(out, command, s, n),
+        b'O' => corners::ask(out, words, s, name, n),
+        b'T' => transform(out, s, n[1] as usize),
+        _ => Ok(()),
     }
 }
 
-pub fn ask(m: Line, f: &[u8; 262144], n: &[u64; 8]) {
+pub fn ask(out: &mut impl Write, m: Line, f: &[u8; 262144], n: &[u64; 8]) -> io::Result<()> {
     ask_command(
+        out,
         m.command,
         m.words,
         line::file(m, f),
         line::grid(m, f),
         line::name(m, f),
         n,
-    );
+    )
 }

@@ -7,12 +7,13 @@ ghost use Rattle.std.specs.Prelude.{◌≤◌};
 
 use asking::show;
 use leaves::FillAnswer;
+use std::io::{self, Write};
 
-fn show_origin(x: i32, y: i32, z: i32) {
-    show::tag(b'|');
-    show::signed32(x);
-    show::signed32(y);
-    show::signed32(z);
+fn show_origin(out: &mut impl Write, x: i32, y: i32, z: i32) -> io::Result<()> {
+    show::tag(out, b'|')?;
+    show::signed32(out, x)?;
+    show::signed32(out, y)?;
+    show::signed32(out, z)
 }
 
 // A slot as it is before each call.
@@ -21,32 +22,45 @@ fn is_untouched(x: i32, y: i32, z: i32) -> bool {
 }
 
 // Shows a slot that is filled; whether one that is not is as it was.
-fn take_slot(filled: bool, x: i32, y: i32, z: i32) -> bool {
+fn take_slot(out: &mut impl Write, filled: bool, x: i32, y: i32, z: i32) -> io::Result<bool> {
     if filled {
-        show_origin(x, y, z);
-        return true;
+        show_origin(out, x, y, z)?;
+        return Ok(true);
     }
-    is_untouched(x, y, z)
+    Ok(is_untouched(x, y, z))
 }
 
 // The first slots are filled.
-fn show_slots(filled: usize, x: &[i32; 32], y: &[i32; 32], z: &[i32; 32]) {
+fn show_slots(
+    out: &mut impl Write,
+    filled: usize,
+    x: &[i32; 32],
+    y: &[i32; 32],
+    z: &[i32; 32],
+) -> io::Result<()> {
     let mut kept = true;
     for i in 0..32 {
-        kept = kept & take_slot(i < filled, x[i], y[i], z[i]);
+        kept = kept & take_slot(out, i < filled, x[i], y[i], z[i])?;
     }
-    show::flag(kept);
+    show::flag(out, kept)
 }
 
-fn show_answer(a: FillAnswer, lent: usize, x: &[i32; 32], y: &[i32; 32], z: &[i32; 32]) {
+fn show_answer(
+    out: &mut impl Write,
+    a: FillAnswer,
+    lent: usize,
+    x: &[i32; 32],
+    y: &[i32; 32],
+    z: &[i32; 32],
+) -> io::Result<()> {
     match a {
         FillAnswer::Refused(k) => {
-            show::refused(k);
-            show_slots(0, x, y, z);
+            show::refused(out, k)?;
+            show_slots(out, 0, x, y, z)
         }
         FillAnswer::Filled => {
-            show::tag(b'f');
-            show_slots(lent, x, y, z);
+            show::tag(out, b'f')?;
+            show_slots(out, lent, x, y, z)
         }
     }
 }
@@ -73,7 +87,13 @@ fn length(n: u64) -> usize
     n as usize % 33
 }
 
-pub fn ask(words: usize, s: &[u8], name: &[u8], n: &[u64; 8]) {
+pub fn ask(
+    out: &mut impl Write,
+    words: usize,
+    s: &[u8],
+    name: &[u8],
+    n: &[u64; 8],
+) -> io::Result<()> {
     let mut x = [71i32; 32];
     let mut y = [72i32; 32];
     let mut z = [73i32; 32];
@@ -91,5 +111,5 @@ pub fn ask(words: usize, s: &[u8], name: &[u8], n: &[u64; 8]) {
         &mut y[0..b],
         &mut z[0..c],
     );
-    show_answer(answer, a, &x, &y, &z);
+    show_answer(out, answer, a, &x, &y, &z)
 }

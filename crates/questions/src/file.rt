@@ -5,16 +5,37 @@
 //     again LEN               LEN bytes of the file that was kept
 use asking::line;
 use line::Line;
+use std::fs;
+use std::io::{self, ErrorKind, Read};
+use std::rt::Files;
 
 fn copy(to: &mut [u8; 262144], from: &[u8; 262144]) {
     *to = *from;
 }
 
-fn load(m: Line, f: &mut [u8; 262144]) -> usize {
-    let fd = os::open_read(line::name(m, f));
-    let n = io::read_full(fd, f);
-    libc::close(fd);
-    n
+fn opened<R: Files>(rt: &R, name: &[u8]) -> io::Result<R::File> {
+    match str::from_utf8(name) {
+        Ok(path) => fs::open(rt, path),
+        Err(_) => Err(io::Error::new(ErrorKind::InvalidInput, "a file's name is not UTF-8")),
+    }
+}
+
+// Reads until f is full or the file ends, and hands back how many bytes there are.
+fn filled(from: &mut impl Read, f: &mut [u8; 262144]) -> io::Result<usize> {
+    let mut len = 0;
+    while len < 262144 {
+        let n = from.read(&mut f[len..])?;
+        if n == 0 {
+            break;
+        }
+        len += n;
+    }
+    Ok(len)
+}
+
+fn load(rt: &impl Files, m: Line, f: &mut [u8; 262144]) -> io::Result<usize> {
+    let mut file = opened(rt, line::name(m, f))?;
+    filled(&mut file, f)
 }
 
 fn change(command: u8, f: &mut [u8; 262144], kept: &mut [u8; 262144]) {
@@ -26,12 +47,18 @@ fn change(command: u8, f: &mut [u8; 262144], kept: &mut [u8; 262144]) {
 }
 
 // Does what the line says, and hands back the file's length.
-pub fn take(m: Line, f: &mut [u8; 262144], kept: &mut [u8; 262144], n: &[u64; 8]) -> usize {
+pub fn take(
+    rt: &impl Files,
+    m: Line,
+    f: &mut [u8; 262144],
+    kept: &mut [u8; 262144],
+    n: &[u64; 8],
+) -> io::Result<usize> {
     let command = m.command;
     change(command, f, kept);
     match command {
-        b'a' => n[1] as usize,
-        b'l' => load(m, f),
-        _ => m.len,
+        b'a' => Ok(n[1] as usize),
+        b'l' => load(rt, m, f),
+        _ => Ok(m.len),
     }
 }

@@ -9,32 +9,49 @@ mod series;
 
 use asking::line;
 use line::Line;
+use std::io::{self, BufWriter, Write};
+use std::rt::Files;
 
 // The end of a line: what it asks for is answered, what it says is done, and the next one begins.
-fn answer(m: Line, f: &mut [u8; 262144], kept: &mut [u8; 262144], n: &mut [u64; 8]) -> Line {
-    calls::ask(m, f, n);
-    walks::ask(m, f, kept, n);
-    let len = file::take(m, f, kept, n);
-    line::end(m.command, len, f, n)
+fn answer(
+    rt: &impl Files,
+    out: &mut impl Write,
+    m: Line,
+    f: &mut [u8; 262144],
+    kept: &mut [u8; 262144],
+    n: &mut [u64; 8],
+) -> io::Result<Line> {
+    calls::ask(out, m, f, n)?;
+    walks::ask(out, m, f, kept, n)?;
+    let len = file::take(rt, m, f, kept, n)?;
+    line::end(out, m.command, len, f, n)
 }
 
-fn run(t: &[u8; 524288], len: usize, f: &mut [u8; 262144], kept: &mut [u8; 262144]) {
+fn run(
+    rt: &impl Files,
+    out: &mut impl Write,
+    t: &[u8],
+    f: &mut [u8; 262144],
+    kept: &mut [u8; 262144],
+) -> io::Result<()> {
     let mut m = line::empty(0);
     let mut n = [0u64; 8];
-    for i in 0..len {
-        let c = t[i % 524288];
-        if c == b'\n' {
-            m = answer(m, f, kept, &mut n);
+    for c in t {
+        if *c == b'\n' {
+            m = answer(rt, out, m, f, kept, &mut n)?;
         } else {
-            m = line::read(m, c, f, &mut n);
+            m = line::read(out, m, *c, f, &mut n)?;
         }
     }
+    Ok(())
 }
 
-fn main() {
-    let mut t = [0u8; 524288];
+fn main(rt: HostRuntime) -> io::Result<()> {
+    let alloc = rt.alloc();
+    let t = line::input(alloc, rt.reader())?;
     let mut f = [0u8; 262144];
     let mut kept = [0u8; 262144];
-    let len = line::input(&mut t);
-    run(&t, len, &mut f, &mut kept);
+    let mut out = BufWriter::new(alloc, io::writer(&rt))?;
+    run(&rt, &mut out, &t, &mut f, &mut kept)?;
+    out.flush()
 }

@@ -1,19 +1,20 @@
 // Rows of numbers, shown by their changes and by their sum.
 use crate::calls;
 use asking::{series, show};
+use std::io::{self, Write};
 
 // Where a row changes, and to what: refusals in decimal digits, values as patterns.
-fn change(command: u8, i: usize, x: u64) {
+fn change(out: &mut impl Write, command: u8, i: usize, x: u64) -> io::Result<()> {
     match command {
         b'c' | b't' => {
-            show::size(i);
-            show::number(x);
+            show::size(out, i)?;
+            show::number(out, x)
         }
         b'v' => {
-            show::size(i);
-            show::wide(x);
+            show::size(out, i)?;
+            show::wide(out, x)
         }
-        _ => {}
+        _ => Ok(()),
     }
 }
 
@@ -31,16 +32,23 @@ fn item(command: u8, s: &[u8], slots: &[u32; 1600], i: usize) -> u64 {
 }
 
 // The places from `from` to the one before `to`.
-pub fn ask(command: u8, s: &[u8], slots: &[u32; 1600], from: usize, to: usize) {
+pub fn ask(
+    out: &mut impl Write,
+    command: u8,
+    s: &[u8],
+    slots: &[u32; 1600],
+    from: usize,
+    to: usize,
+) -> io::Result<()> {
     let mut last = 18446744073709551615;
     let mut sum = 0;
     for i in from..to {
         let x = item(command, s, slots, i);
         if x != last {
-            change(command, i, x);
+            change(out, command, i, x)?;
         }
         last = x;
         sum = series::add(sum, x);
     }
-    series::end(sum);
+    series::end(out, sum)
 }

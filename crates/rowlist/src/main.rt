@@ -13,6 +13,7 @@ use grid::{GridAnswer, OpenedGrid};
 use place::Place;
 use reader::VersionsField;
 use rows::Record;
+use std::io::{self, BufWriter, Read, Write};
 use walk::WalkAnswer;
 
 // A row, and the answer of the call that filled it.
@@ -38,98 +39,98 @@ fn filled_row(s: &[u8], p: Place) -> Row
     Row { slots, answer }
 }
 
-fn refused(k: u32) {
-    show::text(b"refused");
-    show::small(k);
-    show::letter(b'\n');
+fn refused(out: &mut impl Write, k: u32) -> io::Result<()> {
+    show::text(out, b"refused")?;
+    show::small(out, k)?;
+    show::letter(out, b'\n')
 }
 
-fn record(r: Record) {
-    show::plain32(r.x);
-    show::signed32(r.y);
-    show::signed32(r.z);
-    show::small(r.level);
-    show::pattern(r.value);
-    show::letter(b'\n');
+fn record(out: &mut impl Write, r: Record) -> io::Result<()> {
+    show::plain32(out, r.x)?;
+    show::signed32(out, r.y)?;
+    show::signed32(out, r.z)?;
+    show::small(out, r.level)?;
+    show::pattern(out, r.value)?;
+    show::letter(out, b'\n')
 }
 
 // The records in the first slots.
-fn records(slots: [Record; 100], filled: usize)
+fn records(out: &mut impl Write, slots: [Record; 100], filled: usize) -> io::Result<()>
     requires { filled ≤ 100 }
 {
     for i in 0..filled {
-        let r = slots[i];
-        record(r);
+        record(out, slots[i])?;
     }
+    Ok(())
 }
 
 // The records that follow a place, as many as there are slots for.
-fn portion(s: &[u8], p: Place) -> WalkAnswer {
+fn portion(out: &mut impl Write, s: &[u8], p: Place) -> io::Result<WalkAnswer> {
     let row = filled_row(s, p);
-    let slots = row.slots;
-    let answer = row.answer;
-    match answer {
-        WalkAnswer::Walked(w) => records(slots, w.filled),
-        WalkAnswer::Refused(k) => refused(k),
+    match row.answer {
+        WalkAnswer::Walked(w) => records(out, row.slots, w.filled)?,
+        WalkAnswer::Refused(k) => refused(out, k)?,
     }
-    answer
+    Ok(row.answer)
 }
 
 // All records, row by row. Each row but the last is full, so there are at most so many of them; the loop is bounded by that number to show that it
 // ends.
-fn list(s: &[u8], fresh: Place, count: u64) {
+fn list(out: &mut impl Write, s: &[u8], fresh: Place, count: u64) -> io::Result<()> {
     let mut p = fresh;
     for _ in 0..count / 100 + 1 {
-        match portion(s, p) {
+        match portion(out, s, p)? {
             WalkAnswer::Walked(w) => {
                 if w.left == 0 {
-                    return;
+                    return Ok(());
                 }
-                let next = w.place;
-                p = next;
+                p = w.place;
             }
-            WalkAnswer::Refused(_) => return,
+            WalkAnswer::Refused(_) => return Ok(()),
         }
     }
+    Ok(())
 }
 
-fn list_grid(s: &[u8], g: OpenedGrid) {
-    show::text(b"records");
-    show::number(g.active_count);
-    show::letter(b'\n');
-    let fresh = g.place;
-    list(s, fresh, g.active_count);
+fn list_grid(out: &mut impl Write, s: &[u8], g: OpenedGrid) -> io::Result<()> {
+    show::text(out, b"records")?;
+    show::number(out, g.active_count)?;
+    show::letter(out, b'\n')?;
+    list(out, s, g.place, g.active_count)
 }
 
 // They stand behind the eight bytes of the magic.
-fn versions(s: &[u8]) {
+fn versions(out: &mut impl Write, s: &[u8]) -> io::Result<()> {
     match reader::read_versions(s, 8) {
-        VersionsField::Past => {}
+        VersionsField::Past => Ok(()),
         VersionsField::Got(v, _) => {
-            show::text(b"version");
-            show::small(v.file_version);
-            show::small(v.library_version_major);
-            show::small(v.library_version_minor);
-            show::letter(b'\n');
+            show::text(out, b"version")?;
+            show::small(out, v.file_version)?;
+            show::small(out, v.library_version_major)?;
+            show::small(out, v.library_version_minor)?;
+            show::letter(out, b'\n')
         }
     }
 }
 
-fn list_file(s: &[u8]) {
-    versions(s);
+fn list_file(out: &mut impl Write, s: &[u8]) -> io::Result<()> {
+    versions(out, s)?;
     match grid::open_grid_numbered(s, 0) {
-        GridAnswer::Grid(g) => list_grid(s, g),
-        GridAnswer::Refused(k) => refused(k),
+        GridAnswer::Grid(g) => list_grid(out, s, g),
+        GridAnswer::Refused(k) => refused(out, k),
     }
 }
 
-// One byte more than a file may have is room enough to see that it is too long.
-fn main() {
-    let mut t = [0u8; 65537];
-    let n = io::read_full(0, &mut t);
-    if n > 65536 {
-        show::text(b"too long\n");
+// One byte more than a file may have is enough to see that it is too long.
+fn main(rt: HostRuntime) -> io::Result<()> {
+    let alloc = rt.alloc();
+    let mut t = Vec::new(alloc);
+    rt.reader().take(65537).read_to_end(&mut t)?;
+    let mut out = BufWriter::new(alloc, io::writer(&rt))?;
+    if t.len() > 65536 {
+        show::text(&mut out, b"too long\n")?;
     } else {
-        list_file(&t[..n]);
+        list_file(&mut out, &t)?;
     }
+    out.flush()
 }

@@ -4,6 +4,7 @@ use asking::show;
 use fields::Span;
 use lend::Called;
 use place::Place;
+use std::io::{self, Write};
 
 fn is_past(c: Called) -> bool {
     (c.refusal == 22) & c.kept
@@ -39,11 +40,17 @@ fn is_right(command: u8, p: Place, c: Called, k: u64) -> bool {
     }
 }
 
-fn tried(command: u8, s: &[u8], p: Place, k: u64, turn: usize) -> bool {
-    let c = lend::call(s, p, k, turn, false, 0);
-    let next = c.place;
-    let d = lend::call(s, next, k, turn, false, 0);
-    is_right(command, p, c, k) & is_right(command, next, d, k)
+fn tried(
+    out: &mut impl Write,
+    command: u8,
+    s: &[u8],
+    p: Place,
+    k: u64,
+    turn: usize,
+) -> io::Result<bool> {
+    let c = lend::call(out, s, p, k, turn, false, 0)?;
+    let d = lend::call(out, s, c.place, k, turn, false, 0)?;
+    Ok(is_right(command, p, c, k) & is_right(command, c.place, d, k))
 }
 
 // The first bytes of a file.
@@ -51,36 +58,67 @@ pub fn cut(s: &[u8], len: usize) -> &[u8] {
     fields::bytes_of(s, Span { start: 0, len })
 }
 
-fn word_set(command: u8, s: &[u8], p: Place, n: &[u64; 8], i: usize) -> bool {
-    tried(command, s, words::with(p, i as u64, n[5]), n[4], i)
+fn word_set(
+    out: &mut impl Write,
+    command: u8,
+    s: &[u8],
+    p: Place,
+    n: &[u64; 8],
+    i: usize,
+) -> io::Result<bool> {
+    tried(out, command, s, words::with(p, i as u64, n[5]), n[4], i)
 }
 
 // Number i of the calls that a line asks for.
-fn item(command: u8, count: usize, s: &[u8], p: Place, n: &[u64; 8], i: usize) -> bool {
+fn item(
+    out: &mut impl Write,
+    command: u8,
+    count: usize,
+    s: &[u8],
+    p: Place,
+    n: &[u64; 8],
+    i: usize,
+) -> io::Result<bool> {
     match count {
-        5 => word_set(command, s, p, n, i),
-        6 => tried(command, cut(s, i), p, n[4], i),
-        _ => tried(command, s, p, n[4], i),
+        5 => word_set(out, command, s, p, n, i),
+        6 => tried(out, command, cut(s, i), p, n[4], i),
+        _ => tried(out, command, s, p, n[4], i),
     }
 }
 
-fn row(command: u8, count: usize, s: &[u8], p: Place, n: &[u64; 8], from: usize, to: usize) {
+fn row(
+    out: &mut impl Write,
+    command: u8,
+    count: usize,
+    s: &[u8],
+    p: Place,
+    n: &[u64; 8],
+    from: usize,
+    to: usize,
+) -> io::Result<()> {
     let mut calls = 0;
     let mut right = 0;
     for i in from..to {
-        let good = item(command, count, s, p, n, i);
+        let good = item(out, command, count, s, p, n, i)?;
         calls = std::num::wrapping_add_u64(calls, 1);
         right = std::num::wrapping_add_u64(right, good as u64);
     }
-    show::number(calls);
-    show::number(right);
+    show::number(out, calls)?;
+    show::number(out, right)
 }
 
 // The calls that a line with so many numbers asks for.
-pub fn ask(command: u8, count: usize, s: &[u8], p: Place, n: &[u64; 8]) {
+pub fn ask(
+    out: &mut impl Write,
+    command: u8,
+    count: usize,
+    s: &[u8],
+    p: Place,
+    n: &[u64; 8],
+) -> io::Result<()> {
     match count {
-        5 => row(command, count, s, p, n, 0, words::COUNT),
-        6 => row(command, count, s, p, n, n[5] as usize, n[6] as usize),
-        _ => row(command, count, s, p, n, 0, 1),
+        5 => row(out, command, count, s, p, n, 0, words::COUNT),
+        6 => row(out, command, count, s, p, n, n[5] as usize, n[6] as usize),
+        _ => row(out, command, count, s, p, n, 0, 1),
     }
 }

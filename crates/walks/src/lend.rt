@@ -3,11 +3,12 @@ ghost use Rattle.std.specs.Prelude.{◌≤◌};
 
 use asking::{series, show};
 use place::Place;
+use std::io::{self, Write};
 use walk::{WalkAnswer, Walked};
 
 // What a call did: the place that it handed back, its refusal or 0, the number filled and the number left, whether all other slots are as they were,
 // and the sum with its records.
-#[derive(Drop)]
+#[derive(Clone, Copy)]
 pub struct Called {
     pub place: Place,
     pub refusal: u32,
@@ -30,25 +31,42 @@ fn add_record(sum: u64, x: i32, y: i32, z: i32, level: u32, value: u32) -> u64 {
     series::add(series::add(corner, level as u64), value as u64)
 }
 
-fn show_record(x: i32, y: i32, z: i32, level: u32, value: u32) {
-    show::tag(b'|');
-    show::signed32(x);
-    show::signed32(y);
-    show::signed32(z);
-    show::small(level);
-    show::pattern(value);
+fn show_record(
+    out: &mut impl Write,
+    x: i32,
+    y: i32,
+    z: i32,
+    level: u32,
+    value: u32,
+) -> io::Result<()> {
+    show::tag(out, b'|')?;
+    show::signed32(out, x)?;
+    show::signed32(out, y)?;
+    show::signed32(out, z)?;
+    show::small(out, level)?;
+    show::pattern(out, value)
 }
 
 // The sum with one record more, which is shown if that is asked for.
-fn take_record(shown: bool, sum: u64, x: i32, y: i32, z: i32, level: u32, value: u32) -> u64 {
+fn take_record(
+    out: &mut impl Write,
+    shown: bool,
+    sum: u64,
+    x: i32,
+    y: i32,
+    z: i32,
+    level: u32,
+    value: u32,
+) -> io::Result<u64> {
     if shown {
-        show_record(x, y, z, level, value);
+        show_record(out, x, y, z, level, value)?;
     }
-    add_record(sum, x, y, z, level, value)
+    Ok(add_record(sum, x, y, z, level, value))
 }
 
 // The sum with the records in the first slots.
 fn take_records(
+    out: &mut impl Write,
     shown: bool,
     sum: u64,
     x: &[i32; 1024],
@@ -57,12 +75,12 @@ fn take_records(
     level: &[u32; 1024],
     value: &[u32; 1024],
     filled: usize,
-) -> u64 {
+) -> io::Result<u64> {
     let mut after = sum;
     for i in 0..filled % 1025 {
-        after = take_record(shown, after, x[i], y[i], z[i], level[i], value[i]);
+        after = take_record(out, shown, after, x[i], y[i], z[i], level[i], value[i])?;
     }
-    after
+    Ok(after)
 }
 
 // A slot as it is before each call.
@@ -118,7 +136,15 @@ pub fn slots(k: u64) -> usize
 }
 
 // A call with so many slots: one of the five slices has as many, the others up to four more, by the turn.
-pub fn call(s: &[u8], place: Place, k: u64, turn: usize, shown: bool, sum: u64) -> Called {
+pub fn call(
+    out: &mut impl Write,
+    s: &[u8],
+    place: Place,
+    k: u64,
+    turn: usize,
+    shown: bool,
+    sum: u64,
+) -> io::Result<Called> {
     let mut x = [71i32; 1024];
     let mut y = [72i32; 1024];
     let mut z = [73i32; 1024];
@@ -143,9 +169,12 @@ pub fn call(s: &[u8], place: Place, k: u64, turn: usize, shown: bool, sum: u64) 
     match answer {
         WalkAnswer::Walked(w) => {
             let kept = keeps(&x, &y, &z, &level, &value, w.filled);
-            let after = take_records(shown, sum, &x, &y, &z, &level, &value, w.filled);
-            walked(w, kept, after)
+            let after = take_records(out, shown, sum, &x, &y, &z, &level, &value, w.filled)?;
+            Ok(walked(w, kept, after))
         }
-        WalkAnswer::Refused(r) => refused(place, r, keeps(&x, &y, &z, &level, &value, 0), sum),
+        WalkAnswer::Refused(r) => {
+            let kept = keeps(&x, &y, &z, &level, &value, 0);
+            Ok(refused(place, r, kept, sum))
+        }
     }
 }

@@ -22,9 +22,10 @@ use grid::GridAnswer;
 use lend::Called;
 use line::Line;
 use place::Place;
+use std::io::{self, Write};
 
 // A walk, as far as it has come; `kept`, `due` and `same` are whether all calls were so.
-#[derive(Drop)]
+#[derive(Clone, Copy)]
 struct State {
     place: Place,
     refusal: u32,
@@ -77,24 +78,23 @@ fn after(w: State, k: u64, c: Called, again: Called) -> State {
     }
 }
 
-fn step(s: &[u8], w: State, k: u64, turn: usize) -> State {
-    let place = w.place;
-    let c = lend::call(s, place, k, turn, false, w.sum);
-    let again = lend::call(s, place, k, turn / 2, false, w.sum);
-    after(w, k, c, again)
+fn step(out: &mut impl Write, s: &[u8], w: State, k: u64, turn: usize) -> io::Result<State> {
+    let c = lend::call(out, s, w.place, k, turn, false, w.sum)?;
+    let again = lend::call(out, s, w.place, k, turn / 2, false, w.sum)?;
+    Ok(after(w, k, c, again))
 }
 
-fn show_state(w: State) {
+fn show_state(out: &mut impl Write, w: State) -> io::Result<()> {
     if w.refusal != 0 {
-        show::refused(w.refusal);
-        return show::flag(w.kept);
+        show::refused(out, w.refusal)?;
+        return show::flag(out, w.kept);
     }
-    show::number(w.records);
-    show::number(w.left);
-    show::flag(w.kept);
-    show::flag(w.due);
-    show::flag(w.same);
-    series::end(w.sum);
+    show::number(out, w.records)?;
+    show::number(out, w.left)?;
+    show::flag(out, w.kept)?;
+    show::flag(out, w.due)?;
+    show::flag(out, w.same)?;
+    series::end(out, w.sum)
 }
 
 // The slots of a call, by its number: the portions are the numbers of the line from the second on.
@@ -106,34 +106,48 @@ fn portion(n: &[u64; 8], count: usize, turn: usize) -> u64 {
 }
 
 // Calls until nothing is left. Where one of the at most six portions is not zero, there are no more turns than this; else nothing is handed out.
-fn walk_on(s: &[u8], first: State, n: &[u64; 8], count: usize) -> State {
+fn walk_on(
+    out: &mut impl Write,
+    s: &[u8],
+    first: State,
+    n: &[u64; 8],
+    count: usize,
+) -> io::Result<State> {
     let mut w = first;
     let turns = (first.left % 1000000) as usize * 6 + 6;
     for turn in 0..turns {
-        w = step(s, w, portion(n, count, turn), turn);
+        w = step(out, s, w, portion(n, count, turn), turn)?;
         if w.left == 0 {
-            return w;
+            return Ok(w);
         }
         if w.refusal != 0 {
-            return w;
+            return Ok(w);
         }
     }
-    w
+    Ok(w)
 }
 
 // A walk, and a call from where it ends.
-fn walk_from(s: &[u8], place: Place, left: u64, n: &[u64; 8], count: usize) {
-    let end = walk_on(s, start(place, left), n, count);
-    show_state(end);
-    let last = end.place;
-    show_state(step(s, start(last, end.left), 5, 0));
+fn walk_from(
+    out: &mut impl Write,
+    s: &[u8],
+    place: Place,
+    left: u64,
+    n: &[u64; 8],
+    count: usize,
+) -> io::Result<()> {
+    let end = walk_on(out, s, start(place, left), n, count)?;
+    show_state(out, end)?;
+    let next = step(out, s, start(end.place, end.left), 5, 0)?;
+    show_state(out, next)
 }
 
-fn list_from(s: &[u8], place: Place) {
-    let c = lend::call(s, place, 1000, 0, true, 0);
+fn list_from(out: &mut impl Write, s: &[u8], place: Place) -> io::Result<()> {
+    let c = lend::call(out, s, place, 1000, 0, true, 0)?;
     if c.refusal != 0 {
-        show::refused(c.refusal);
+        show::refused(out, c.refusal)?;
     }
+    Ok(())
 }
 
 fn low(n: u64) -> u32 {
@@ -141,56 +155,76 @@ fn low(n: u64) -> u32 {
 }
 
 // Questions that begin at the fresh place of a grid of this file.
-fn from_here(command: u8, s: &[u8], n: &[u64; 8], count: usize) {
+fn from_here(
+    out: &mut impl Write,
+    command: u8,
+    s: &[u8],
+    n: &[u64; 8],
+    count: usize,
+) -> io::Result<()> {
     match grid::open_grid_numbered(s, low(n[1])) {
-        GridAnswer::Refused(k) => show::refused(k),
+        GridAnswer::Refused(k) => show::refused(out, k),
         GridAnswer::Grid(g) => {
             let place = g.place;
             match command {
-                b'W' => walk_from(s, place, g.active_count, n, count),
-                _ => list_from(s, place),
+                b'W' => walk_from(out, s, place, g.active_count, n, count),
+                _ => list_from(out, s, place),
             }
         }
     }
 }
 
 // The place after m records.
-fn place_after(s: &[u8], fresh: Place, m: u64) -> Place {
-    let c = lend::call(s, fresh, m, 0, false, 0);
-    let place = c.place;
-    place
+fn place_after(out: &mut impl Write, s: &[u8], fresh: Place, m: u64) -> io::Result<Place> {
+    let c = lend::call(out, s, fresh, m, 0, false, 0)?;
+    Ok(c.place)
 }
 
-fn next(s: &[u8], place: Place, k: u64) {
-    show_state(step(s, start(place, place.left), k, 0));
+fn next(out: &mut impl Write, s: &[u8], place: Place, k: u64) -> io::Result<()> {
+    let w = step(out, s, start(place, place.left), k, 0)?;
+    show_state(out, w)
 }
 
 // Questions that begin at a place of the file that was kept.
-fn from_kept(command: u8, s: &[u8], kept: &[u8], n: &[u64; 8], count: usize) {
+fn from_kept(
+    out: &mut impl Write,
+    command: u8,
+    s: &[u8],
+    kept: &[u8],
+    n: &[u64; 8],
+    count: usize,
+) -> io::Result<()> {
     match grid::open_grid_numbered(kept, low(n[2])) {
-        GridAnswer::Refused(k) => show::refused(k),
+        GridAnswer::Refused(k) => show::refused(out, k),
         GridAnswer::Grid(g) => {
             let fresh = g.place;
-            let place = place_after(kept, fresh, n[3]);
+            let place = place_after(out, kept, fresh, n[3])?;
             match command {
-                b'N' => next(s, place, n[4]),
-                _ => foreign::ask(command, count, s, place, n),
+                b'N' => next(out, s, place, n[4]),
+                _ => foreign::ask(out, command, count, s, place, n),
             }
         }
     }
 }
 
-pub fn ask(m: Line, f: &[u8; 262144], kept: &[u8; 262144], n: &[u64; 8]) {
+pub fn ask(
+    out: &mut impl Write,
+    m: Line,
+    f: &[u8; 262144],
+    kept: &[u8; 262144],
+    n: &[u64; 8],
+) -> io::Result<()> {
     let command = m.command;
     match command {
-        b'W' | b'L' => from_here(command, line::file(m, f), n, m.words),
+        b'W' | b'L' => from_here(out, command, line::file(m, f), n, m.words),
         b'N' | b'F' | b'P' => from_kept(
+            out,
             command,
             line::file(m, f),
             foreign::cut(kept, n[1] as usize),
             n,
             m.words,
         ),
-        _ => {}
+        _ => Ok(()),
     }
 }
