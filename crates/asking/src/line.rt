@@ -1,8 +1,9 @@
 // A line of the input, read character by character: a word, whose first letter is the command, and numbers; then after a colon bytes, as pairs
 // of hexadecimal digits or in quotes. A comma ends a grid's name. A line that begins with # is a comment.
+ghost use Rattle.std.specs.Prelude.{◌≤◌, IfOk, length};
+
 use crate::{file, show};
 use fields::Span;
-use std::alloc::Global;
 use std::io::{self, Read, Write};
 
 #[derive(Clone, Copy)]
@@ -34,11 +35,26 @@ pub fn empty(len: usize) -> Line {
     }
 }
 
-// The input; no more than its first 524,288 bytes are read.
-pub fn input(alloc: Global, from: impl Read + Drop) -> io::Result<Vec<u8>> {
-    let mut t = Vec::new(alloc);
-    from.take(524288).read_to_end(&mut t)?;
-    Ok(t)
+// Reads until t is full or what is read from ends, and hands back how many bytes there are.
+pub fn filled(from: &mut impl Read, t: &mut [u8]) -> io::Result<usize>
+    ensures { IfOk result (λ n. n ≤ length t.new) }
+{
+    let mut len = 0;
+    while len < t.len() {
+        let n = from.read(&mut t[len..])?;
+        if n == 0 {
+            break;
+        }
+        len += n;
+    }
+    Ok(len)
+}
+
+// The whole input, and its length.
+pub fn input(from: &mut impl Read, t: &mut [u8; 524288]) -> io::Result<usize>
+    ensures { IfOk result (λ n. n ≤ 524288) }
+{
+    filled(from, t)
 }
 
 fn part(f: &[u8; 262144], start: usize, len: usize) -> &[u8] {

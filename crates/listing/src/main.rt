@@ -4,10 +4,10 @@
 
 ghost use Rattle.std.specs.Prelude.{◌≤◌};
 
-use asking::show;
+use asking::{line, show};
 use grid::{GridAnswer, OpenedGrid};
 use place::Place;
-use std::io::{self, BufWriter, Read, Write};
+use std::io::{self, Write};
 use walk::WalkAnswer;
 
 fn refused(out: &mut impl Write, k: u32) -> io::Result<()> {
@@ -90,16 +90,14 @@ fn list_file(out: &mut impl Write, s: &[u8]) -> io::Result<()> {
     }
 }
 
-// One byte more than a file may have is enough to see that it is too long.
+// One byte more than a file may have is room enough to see that it is too long.
 fn main(rt: HostRuntime) -> io::Result<()> {
-    let alloc = rt.alloc();
-    let mut t = Vec::new(alloc);
-    rt.reader().take(65537).read_to_end(&mut t)?;
-    let mut out = BufWriter::new(alloc, io::writer(&rt))?;
-    if t.len() > 65536 {
-        show::text(&mut out, b"too long\n")?;
+    let mut t = [0u8; 65537];
+    let n = line::filled(&mut rt.reader(), &mut t)?;
+    let mut out = io::writer(&rt);
+    if n > 65536 {
+        show::text(&mut out, b"too long\n")
     } else {
-        list_file(&mut out, &t)?;
+        list_file(&mut out, &t[..n])
     }
-    out.flush()
 }

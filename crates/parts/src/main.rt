@@ -6,7 +6,7 @@
 mod layers;
 
 use asking::line;
-use std::io::{self, BufWriter, Write};
+use std::io::{self, Write};
 
 fn run(out: &mut impl Write, t: &[u8], f: &mut [u8; 262144]) -> io::Result<()> {
     let mut m = line::empty(0);
@@ -23,10 +23,8 @@ fn run(out: &mut impl Write, t: &[u8], f: &mut [u8; 262144]) -> io::Result<()> {
 }
 
 fn main(rt: HostRuntime) -> io::Result<()> {
-    let alloc = rt.alloc();
-    let t = line::input(alloc, rt.reader())?;
+    let mut t = [0u8; 524288];
     let mut f = [0u8; 262144];
-    let mut out = BufWriter::new(alloc, io::writer(&rt))?;
-    run(&mut out, &t, &mut f)?;
-    out.flush()
+    let len = line::input(&mut rt.reader(), &mut t)?;
+    run(&mut io::writer(&rt), &t[..len], &mut f)
 }

@@ -6,7 +6,7 @@
 use asking::line;
 use line::Line;
 use std::fs;
-use std::io::{self, ErrorKind, Read};
+use std::io::{self, ErrorKind};
 use std::rt::Files;
 
 fn copy(to: &mut [u8; 262144], from: &[u8; 262144]) {
@@ -20,22 +20,12 @@ fn opened<R: Files>(rt: &R, name: &[u8]) -> io::Result<R::File> {
     }
 }
 
-// Reads until f is full or the file ends, and hands back how many bytes there are.
-fn filled(from: &mut impl Read, f: &mut [u8; 262144]) -> io::Result<usize> {
-    let mut len = 0;
-    while len < 262144 {
-        let n = from.read(&mut f[len..])?;
-        if n == 0 {
-            break;
-        }
-        len += n;
-    }
-    Ok(len)
-}
-
+// A file that cannot be opened has no bytes.
 fn load(rt: &impl Files, m: Line, f: &mut [u8; 262144]) -> io::Result<usize> {
-    let mut file = opened(rt, line::name(m, f))?;
-    filled(&mut file, f)
+    match opened(rt, line::name(m, f)) {
+        Ok(mut file) => line::filled(&mut file, f),
+        Err(_) => Ok(0),
+    }
 }
 
 fn change(command: u8, f: &mut [u8; 262144], kept: &mut [u8; 262144]) {

@@ -9,7 +9,7 @@ mod series;
 
 use asking::line;
 use line::Line;
-use std::io::{self, BufWriter, Write};
+use std::io::{self, Write};
 use std::rt::Files;
 
 // The end of a line: what it asks for is answered, what it says is done, and the next one begins.
@@ -47,11 +47,9 @@ fn run(
 }
 
 fn main(rt: HostRuntime) -> io::Result<()> {
-    let alloc = rt.alloc();
-    let t = line::input(alloc, rt.reader())?;
+    let mut t = [0u8; 524288];
     let mut f = [0u8; 262144];
     let mut kept = [0u8; 262144];
-    let mut out = BufWriter::new(alloc, io::writer(&rt))?;
-    run(&rt, &mut out, &t, &mut f, &mut kept)?;
-    out.flush()
+    let len = line::input(&mut rt.reader(), &mut t)?;
+    run(&rt, &mut io::writer(&rt), &t[..len], &mut f, &mut kept)
 }
