@@ -1,30 +1,46 @@
--- Section 8: what an answer of the code says: the value with the next position, or check 2.
-use Rattle.std.specs.Prelude.{ℕ}
+-- Section 8: what an answer of the code says: the value with the next position, or the number of the check that fails.
+use Rattle.std.specs.Prelude.{ℕ, Result, Ok, Err}
 use Rattle.fields.specs.Parse.{Parse, got, fails}
-use Rattle.fields.specs.declared.IVec3.{IVec3}
-use Rattle.fields.specs.declared.DVec3.{DVec3}
-use Rattle.fields.specs.declared.Span.{Span}
-use Rattle.fields.specs.declared.U32Field.{U32Field}
-use Rattle.fields.specs.declared.U32Field.TheVariants.{Got as GotU32, Past as PastU32}
-use Rattle.fields.specs.declared.IVec3Field.{IVec3Field}
-use Rattle.fields.specs.declared.IVec3Field.TheVariants.{Got as GotIVec3, Past as PastIVec3}
-use Rattle.fields.specs.declared.DVec3Field.{DVec3Field}
-use Rattle.fields.specs.declared.DVec3Field.TheVariants.{Got as GotDVec3, Past as PastDVec3}
-use Rattle.fields.specs.declared.SpanField.{SpanField}
-use Rattle.fields.specs.declared.SpanField.TheVariants.{Got as GotSpan, Past as PastSpan}
+use Rattle.fields.specs.Answer.{Answer, gives, refuses}
+use Rattle.fields.specs.declared.ParseError.{ParseError}
+use Rattle.fields.specs.declared.ParseError.TheVariants as E
 
-abbrev pub says_u32 : U32Field → Parse ℕ
-says_u32 (GotU32 v n) = got v n
-says_u32 PastU32 = fails 2
+-- the number of a check
+abbrev pub number : ParseError → ℕ
+number E.FileTooLong = 1
+number E.PastEnd = 2
+number E.MagicMismatch = 3
+number E.UnsupportedVersion = 4
+number E.NoGridOffsets = 5
+number E.PackedGrid = 6
+number E.InvalidCompression = 7
+number E.TooManyGrids = 8
+number E.PositionPastEnd = 9
+number E.RepeatedGridName = 10
+number E.NotFound = 11
+number E.UnsupportedGridType = 12
+number E.InstanceParent = 13
+number E.UnsupportedMap = 14
+number E.InvalidBufferCount = 15
+number E.TooManyRoots = 16
+number E.InvalidRootOrigin = 17
+number E.ChildAndValue = 18
+number E.InvalidNodeMetadata = 19
+number E.InvalidLeafBlock = 20
+number E.NoSuchLeaf = 21
+number E.ForeignPlace = 22
+number E.InvalidRunSize = 25
 
-abbrev pub says_i_vec3 : IVec3Field → Parse IVec3
-says_i_vec3 (GotIVec3 v n) = got v n
-says_i_vec3 PastIVec3 = fails 2
+abbrev pub says : {A : Type 0} → Result (A × ℕ) ParseError → Parse A
+says (Ok (v, n)) = got v n
+says (Err e) = fails (number e)
 
-abbrev pub says_d_vec3 : DVec3Field → Parse DVec3
-says_d_vec3 (GotDVec3 v n) = got v n
-says_d_vec3 PastDVec3 = fails 2
+-- the same where only the end is kept
+abbrev pub says_end : Result ℕ ParseError → Parse Unit
+says_end (Ok n) = got tt n
+says_end (Err e) = fails (number e)
 
-abbrev pub says_span : SpanField → Parse Span
-says_span (GotSpan v n) = got v n
-says_span PastSpan = fails 2
+-- an answer to a caller
+abbrev pub says_answer : {A : Type 0} → Result A ParseError → Answer A
+says_answer (Ok a) = gives a
+says_answer (Err e) = refuses (number e)

@@ -1,15 +1,11 @@
--- The two tests together say that the bytes lie in the file, with no sum that could wrap.
-use borrow.Author.Rules.{rules}
+-- The bytes are there, or they run past the end.
 use native.Mathlib.Omega.{arith}
-use mathlib.Core.Path.{refl}
-use Rattle.fields.proofs.Laws.{field-whole, field_past}
+use Rattle.std.proofs.Common.{refl}
+use Rattle.fields.proofs.Steps.{whole-past, whole-there}
 use Rattle.fields.proofs.read_bytes.Goals as goal
 
-pub returns-then-s-at : goal.returns-then-s-at
-returns-then-s-at c = field_past _ _ _ _ (omega arith)
-
-pub returns-then-s-at-2 : goal.returns-then-s-at-2
-returns-then-s-at-2 c = field_past _ _ _ _ (omega arith)
+pub returns-in_err-next : goal.returns-in_err-next
+returns-in_err-next c = whole-past _ _ _ _ _ _ c.from_residual.ensures.1 c.in_err-next.ensures
 
 pub returns : goal.returns
-returns c = field-whole _ _ _ _ _ (omega arith) refl
+returns c = whole-there _ _ _ _ _ _ c.in_ok-next.ensures refl

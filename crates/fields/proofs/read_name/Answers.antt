@@ -1,14 +1,12 @@
 -- The length is not whole, or as many bytes follow it as it says.
-use borrow.Author.Rules.{rules}
 use Rattle.fields.specs.Fields.{string_field}
-use Rattle.fields.specs.Says.{says_u32}
-use Rattle.fields.proofs.Laws.{then-got, then-fails, told}
+use Rattle.fields.proofs.Steps.{read, handed-on}
 use Rattle.fields.proofs.read_name.Goals as goal
 
-pub returns-in-Past : goal.returns-in-Past
+pub returns-in_err-n : goal.returns-in_err-n
 unfolding string_field
-returns-in-Past c = then-fails _ (told says_u32 c.in-Past.is c.read_u32.ensures)
+returns-in_err-n c = handed-on _ _ c.from_residual.ensures.1 (search (read, c.in_err-n.ensures))
 
-pub returns-in-Got : goal.returns-in-Got
+pub returns : goal.returns
 unfolding string_field
-returns-in-Got c = then-got _ (told says_u32 c.in-Got.is c.read_u32.ensures) c.read_bytes.ensures
+returns c = search (read, c.in_ok-n.ensures)

@@ -1,11 +1,11 @@
--- The four bytes are there, or they run past the end.
-use borrow.Author.Rules.{rules}
+-- The bytes are there, or they run past the end.
 use native.Mathlib.Omega.{arith}
-use Rattle.fields.proofs.Laws.{field-whole, field_past}
+use Rattle.std.proofs.Common.{refl}
+use Rattle.fields.proofs.Steps.{whole-past, whole-there}
 use Rattle.fields.proofs.read_u32.Goals as goal
 
-pub returns-then-remaining-lt4 : goal.returns-then-remaining-lt4
-returns-then-remaining-lt4 c = field_past _ _ _ _ (omega arith)
+pub returns-in_err-next : goal.returns-in_err-next
+returns-in_err-next c = whole-past _ _ _ _ _ _ c.from_residual.ensures.1 c.in_err-next.ensures
 
 pub returns : goal.returns
-returns c = field-whole _ _ _ _ _ (omega arith) c.u32_at.ensures
+returns c = whole-there _ _ _ _ _ _ c.in_ok-next.ensures c.u32_at.ensures

@@ -1,14 +1,7 @@
--- Each answer is what the difference says.
-use borrow.Author.Rules.{rules}
-use Rattle.fields.specs.Inner.{says_same}
-use Rattle.fields.proofs.Steps.{by}
+use mathlib.Core.Path.{◌∙◌}
+use borrow.Author.Tests.{ne_eqb}
+use Rattle.fields.proofs.Laws.{same_length}
 use Rattle.fields.proofs.same_bytes.Goals as goal
 
-pub returns-in-Nowhere : goal.returns-in-Nowhere
-returns-in-Nowhere c = search (by says_same)
-
-pub returns-in-Lengths : goal.returns-in-Lengths
-returns-in-Lengths c = search (by says_same)
-
-pub returns-in-At : goal.returns-in-At
-returns-in-At c = search (by says_same)
+pub returns-else-a-b : goal.returns-else-a-b
+returns-else-a-b c = ne_eqb _ _ c.if-a-b.false ∙ same_length _ _ c.if-a-b.false

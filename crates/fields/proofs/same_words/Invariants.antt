@@ -1,15 +1,9 @@
--- What is left from the word reached is the whole answer.
-use borrow.Author.Rules.{rules}
-use native.Mathlib.Omega.{arith}
-use mathlib.Core.Path.{◌≡◌, ◌∙◌, refl}
-use Prim.Native.Nat.{◌≤◌, ◌-◌}
-use lib.ListN.{length, drop}
+-- What is left from the words passed is the whole answer.
+use mathlib.Core.Path.{◌≡◌}
+use Prim.Native.Nat.{◌*◌}
+use lib.ListN.{drop}
 use Rattle.fields.specs.Fields.{same_bytes}
-use Rattle.fields.proofs.Words.{same_word}
 use Rattle.fields.proofs.same_words.Given as goal
 
-abbrev pub invariant-loop-i : goal.invariant-loop-i
-invariant-loop-i l = (l.i ≤ length l.a) × (same_bytes (drop l.i l.a) (drop l.i l.b) ≡ same_bytes l.a l.b)
-
-abbrev pub decreases-loop-i : goal.decreases-loop-i
-decreases-loop-i l = length l.a - l.i
+abbrev pub invariant-loop-k : goal.invariant-loop-k
+invariant-loop-k l = same_bytes (drop (8 * l.k) l.a) (drop (8 * l.k) l.b) ≡ same_bytes l.a l.b

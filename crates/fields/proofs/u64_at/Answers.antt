@@ -1,5 +1,5 @@
 -- The two halves of the word.
-use borrow.Author.Rules.{rules}
+use Rattle.std.proofs.Common.{rules}
 use Rattle.fields.specs.Le.{u64_at}
 use Rattle.fields.proofs.u64_at.Goals as goal
 
