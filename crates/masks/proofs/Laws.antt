@@ -2,9 +2,8 @@
 use mathlib.Core.Path.{◌≡◌, refl, sym, ap, ◌∙◌, subst}
 use mathlib.Core.Logic.{◌↔◌, ◌⊎◌, inl, inr, ⊎_elim}
 use mathlib.Core.Bool.{Bool, true, false, not, ◌&&◌, cond, beq, true≢false, false≢true, and-eq-true_iff}
-use mathlib.Core.Option.{none, some}
 use mathlib.Core.List.Memᴰ
-use mathlib.Core.List.{List, [], ◌∷◌, ◌++◌, Memᴰ, head?}
+use mathlib.Core.List.{List, [], ◌∷◌, ◌++◌, Memᴰ}
 use Prim.Native.Nat.{ℕ, zero, suc, ◌+◌, ◌-◌, ◌≤◌, ◌<◌}
 use native.Mathlib.Nat.{add-zero, zero-add, add-suc, suc-add, not-suc-le-zero, le_of_suc-le-suc, sub-zero, eq-or-lt_of_le, lt_of_not-le}
 use native.Mathlib.Numerals.{add-one}
@@ -12,8 +11,11 @@ use native.Mathlib.Omega.{arith}
 use lib.ListN.{length, get_or, length-append}
 use lib.Seq.{get_or-append_seam}
 use borrow.Author.Tests.{not-true, not-false}
+use Rattle.std.proofs.Common.{Some, None}
+use Rattle.coordinates.specs.Coordinates.{index}
+use Rattle.coordinates.specs.declared.Index.{Index}
 use Rattle.masks.specs.Masks.{ones_from, cons_if, ones, count_below, is_nil, overlap, agree}
-use Rattle.masks.specs.Inner.{zeros_below, next_one}
+use Rattle.masks.specs.Inner.{zeros_below, first, next_one}
 
 cons_if-append : (b : Bool) (p : ℕ) (l m : List ℕ) → cons_if b p (l ++ m) ≡ cons_if b p l ++ m
 cons_if-append true p l m = refl
@@ -219,23 +221,23 @@ module _ (f : ℕ → Bool) where
       rw (s, sub-zero) (get_or-append_seam (ones f q) q (ones_from f (suc q) (0 + n - suc q)) d)
 
 -- The next one.
-first-none : (l : List ℕ) → head? l ≡ none → l ≡ []
+first-none : (l : List ℕ) → first l ≡ None → l ≡ []
 first-none [] e = refl
 first-none (p ∷ l) e = let z : ◌≡◌ {A = ℕ} 0 1 = cc in absurd (omega arith)
 
-first_some : (l : List ℕ) (q : ℕ) → head? l ≡ some q → (0 < length l) × (get_or l 0 0 ≡ q)
+first_some : (l : List ℕ) (q : Index) → first l ≡ Some q → (0 < length l) × (get_or l 0 0 ≡ q.0)
 first_some [] q e = let z : ◌≡◌ {A = ℕ} 0 1 = cc in absurd (omega arith)
-first_some (p ∷ l) q e = (omega arith, cc)
+first_some (p ∷ l) q e = let z : index p ≡ q = cc in (omega arith, ap (λ (i : Index). i.0) z)
 
 length-nil : (l : List ℕ) → length l ≡ 0 → l ≡ []
 length-nil [] e = refl
 length-nil (p ∷ l) e = absurd (omega arith)
 
 module _ (f : ℕ → Bool) (n p : ℕ) where
-  pub next-none : (next_one f n p ≡ none) ↔ (ones_from f p (n - p) ≡ [])
-  next-none = (first-none _, λ e. ap head? e)
+  pub next-none : (next_one f n p ≡ None) ↔ (ones_from f p (n - p) ≡ [])
+  next-none = (first-none _, λ e. ap first e)
 
-  next-numbered : (q : ℕ) → next_one f n p ≡ some q → Numbered f p (n - p) 0 q
+  next-numbered : (q : Index) → next_one f n p ≡ Some q → Numbered f p (n - p) 0 q.0
   next-numbered q e =
       let h = first_some (ones_from f p (n - p)) q e in
       subst (Numbered f p (n - p) 0) h.1 (ones-numbered f (n - p) p 0 0 h.0)
@@ -246,43 +248,43 @@ module _ (f : ℕ → Bool) (n p : ℕ) where
       let e : p + (n - p) ≡ n = omega arith in
       rw (ones_split f p (n - p) q (a.0, a.1, a.2), length-nil (ones_from f p (q - p)) a.3, e)
 
-  pub next-some : (q : ℕ) → (next_one f n p ≡ some q) ↔ (ones_from f p (n - p) ≡ q ∷ ones_from f (suc q) (n - suc q))
-  next-some q = (λ e. next-split q (next-numbered q e), λ e. ap head? e)
+  pub next-some : (q : Index) → (next_one f n p ≡ Some q) ↔ (ones_from f p (n - p) ≡ q.0 ∷ ones_from f (suc q.0) (n - suc q.0))
+  next-some q = (λ e. next-split q.0 (next-numbered q e), λ e. ap first e)
 
   -- it is a one at or after p, with zeros alone before it
-  pub next-from : (q : ℕ) → next_one f n p ≡ some q → p ≤ q
+  pub next-from : (q : Index) → next_one f n p ≡ Some q → p ≤ q.0
   next-from q e = (next-numbered q e).0
 
-  pub next-lt : (q : ℕ) → next_one f n p ≡ some q → q < n
+  pub next-lt : (q : Index) → next_one f n p ≡ Some q → q.0 < n
   next-lt q e = let a = next-numbered q e in omega arith
 
-  pub next_one_lem : (q : ℕ) → next_one f n p ≡ some q → f q ≡ true
+  pub next_one_lem : (q : Index) → next_one f n p ≡ Some q → f q.0 ≡ true
   next_one_lem q e = (next-numbered q e).2
 
-  pub next-zeros : (q : ℕ) → next_one f n p ≡ some q → ones_from f p (q - p) ≡ []
+  pub next-zeros : (q : Index) → next_one f n p ≡ Some q → ones_from f p (q.0 - p) ≡ []
   next-zeros q e = length-nil _ (next-numbered q e).3
 
   -- and as many ones are below it as below p
-  pub next-count : (q : ℕ) → next_one f n p ≡ some q → count_below f q ≡ count_below f p
+  pub next-count : (q : Index) → next_one f n p ≡ Some q → count_below f q.0 ≡ count_below f p
   next-count q e =
       let a = next-numbered q e in
-      let h : p + (q - p) ≡ q = omega arith in
-      omega (arith, rw h at (count_add f p (q - p)))
+      let h : p + (q.0 - p) ≡ q.0 = omega arith in
+      omega (arith, rw h at (count_add f p (q.0 - p)))
 
   -- and where there is none, as many as in the mask
-  pub next-none-count : p ≤ n → next_one f n p ≡ none → count_below f n ≡ count_below f p
+  pub next-none-count : p ≤ n → next_one f n p ≡ None → count_below f n ≡ count_below f p
   next-none-count l e =
       let h : p + (n - p) ≡ n = omega arith in
       omega (arith, rw h at (count_add f p (n - p)), ap length (next-none.0 e))
 
   -- past the mask
-  pub next-end : n ≤ p → next_one f n p ≡ none
+  pub next-end : n ≤ p → next_one f n p ≡ None
   next-end h =
       let k : n - p ≡ 0 = omega arith in
       rw (k, ones_none f p)
 
   -- a one at p itself
-  pub next_here : f p ≡ true → p < n → next_one f n p ≡ some p
+  pub next_here : f p ≡ true → p < n → next_one f n p ≡ Some (index p)
   next_here e h =
       let k : n - p ≡ suc (n - suc p) = omega arith in
       rw (k, ones-one f p (n - suc p) e)

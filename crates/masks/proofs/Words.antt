@@ -2,7 +2,7 @@
 use mathlib.Core.Path.{◌≡◌, refl, sym, ap, ◌∙◌}
 use mathlib.Core.Bool.{Bool, true, false, not, ◌&&◌, beq, true≢false}
 use mathlib.Core.Logic.{◌↔◌}
-use mathlib.Core.Option.{some}
+use Rattle.std.proofs.Common.{Some}
 use mathlib.Core.List.{List, [], ◌∷◌, ◌++◌}
 use Prim.Native.Nat.{ℕ, ◌+◌, ◌-◌, ◌*◌, ◌/◌, ◌%◌, ◌^◌, ◌≤◌, ◌<◌}
 use native.Mathlib.Nat.{add-zero, zero-add, mod-eq_of_lt, lt_of_not-le, lt_of_le_of_lt, div-le_self}
@@ -16,6 +16,7 @@ use borrow.Author.Tests.{not-false, eqb-true, eqb-false}
 use Rattle.fields.specs.Le.{byte_at, u64_at}
 use Rattle.masks.specs.Masks.{digit, mask_bit, ones_from, ones, count_below, is_nil, agree, overlap}
 use Rattle.masks.specs.Inner.{next_one, IsWord}
+use Rattle.coordinates.specs.Coordinates.{index}
 use Rattle.masks.proofs.Laws.{ones-append, ones-nil, nil-zero, ones-ext, length_shift, count_add, none_below, is_nil-true, differ-false, next_here, next-later}
 use Rattle.masks.proofs.Digits.{digit_shift, digit-past, same_digits, zero-digits, word_lt, word-digit, mask-shift, count-digits, and-digit, trailing-zero, trailing-one, trailing_lt}
 
@@ -78,7 +79,7 @@ module _ (f : ℕ → Bool) (p w : ℕ) (h : IsWord f p w) where
       next-clear : ones_from f q (q + t - q) ≡ []
       next-clear = ones-nil f (q + t - q) q (λ j l g. place-bit j l (omega (arith, inside)) ∙ trailing-zero 64 x _ (omega arith))
 
-      pub next-in-word : (n : ℕ) → p + 64 ≤ n → next_one f n q ≡ some (q + t)
+      pub next-in-word : (n : ℕ) → p + 64 ≤ n → next_one f n q ≡ Some (index (q + t))
       next-in-word n l =
           let b = inside in
           next-later f n q (q + t) (omega arith) (omega arith) next-clear ∙ next_here f n (q + t) next_bit (omega arith)

@@ -1,10 +1,8 @@
 -- Inner matter: only contracts of inner functions cite it, and nothing here has to be believed.
-use Rattle.std.specs.Prelude.{ℕ, ◌+◌, ◌-◌, ◌*◌, ◌/◌, ◌%◌, ◌^◌, ◌≤◌, ◌<◌, ◌≡◌, Bool, not, length}
-use Rattle.std.proofs.Math.Option.{Option, none, some}
-use mathlib.Core.List.{List, head?}
+use Rattle.std.specs.Prelude.{ℕ, ◌+◌, ◌-◌, ◌*◌, ◌/◌, ◌%◌, ◌^◌, ◌≤◌, ◌<◌, ◌≡◌, Bool, not, List, [], ◌∷◌, length, Option, Some, None}
+use Rattle.coordinates.specs.Coordinates.{index}
+use Rattle.coordinates.specs.declared.Index.{Index}
 use Rattle.masks.specs.Masks.{digit, ones_from, count_below}
-use Rattle.masks.specs.declared.NextOne.{NextOne}
-use Rattle.masks.specs.declared.NextOne.TheVariants.{At, Nothing}
 
 -- What the functions ask of a mask of n bytes at a position: it lies in the file and is whole words, a 5-node's at most.
 pub record IsMask (s : List ℕ) (at n : ℕ) : Type 0 where
@@ -17,13 +15,12 @@ abbrev pub zeros_below : (ℕ → Bool) → ℕ → ℕ
 zeros_below f p = count_below (λ q. not (f q)) p
 
 -- the next one at or after p in a mask of n places, if there is one
-abbrev pub next_one : (ℕ → Bool) → ℕ → ℕ → Option ℕ
-next_one f n p = head? (ones_from f p (n - p))
+abbrev pub first : List ℕ → Option Index
+first [] = None
+first (p ∷ l) = Some (index p)
 
--- what the code's answer says
-abbrev pub says_next : NextOne → Option ℕ
-says_next (At i) = some i.0
-says_next Nothing = none
+abbrev pub next_one : (ℕ → Bool) → ℕ → ℕ → Option Index
+next_one f n p = first (ones_from f p (n - p))
 
 -- w is a u64 whose bits are those of the 64 places from p on
 pub record IsWord (f : ℕ → Bool) (p w : ℕ) : Type 0 where

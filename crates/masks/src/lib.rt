@@ -6,16 +6,9 @@
 ghost use Rattle.std.specs.Prelude.{◌≡◌, ◌+◌, ◌*◌, ◌/◌, ◌%◌, ◌^◌, ◌≤◌, ◌<◌};
 ghost use Rattle.std.specs.Int.Count.{count_trailing_zeros};
 ghost use Rattle.masks.specs.Masks.{mask_bit, count_below, overlap, agree};
-ghost use Rattle.masks.specs.Inner.{zeros_below, IsMask, next_one, says_next, IsWord, ones_past};
+ghost use Rattle.masks.specs.Inner.{zeros_below, IsMask, next_one, IsWord, ones_past};
 
 use coordinates::Index;
-
-// The next one of a mask, if there is one.
-#[derive(Drop)]
-pub enum NextOne {
-    At(Index),
-    Nothing,
-}
 
 // The bit of a place.
 pub fn bit(s: &[u8], at: usize, n: usize, p: Index) -> bool
@@ -39,11 +32,9 @@ pub fn count_ones(s: &[u8], at: usize, n: usize) -> u32
     requires { IsMask s.now at n }
     ensures { result ≡ count_below (mask_bit s.now at) (8 * n) }
 {
-    let mut count: u32 = 0;
-    let mut i = 0;
-    while i < n {
-        count = count + u64::count_ones(word(s, at, n, i));
-        i = i + 8;
+    let mut count = 0;
+    for k in 0..n / 8 {
+        count += word(s, at, n, 8 * k).count_ones();
     }
     count
 }
@@ -68,7 +59,7 @@ pub fn count_ones_below(s: &[u8], at: usize, n: usize, p: Index) -> u32
     if rest == 0 {
         return whole;
     }
-    whole + u64::count_ones(low_bits(word(s, at, n, i), rest))
+    whole + low_bits(word(s, at, n, i), rest).count_ones()
 }
 
 // The zeros of a whole mask.
@@ -84,8 +75,7 @@ pub fn count_zeros_below(s: &[u8], at: usize, n: usize, p: Index) -> u32
     requires { IsMask s.now at n × (p.0 ≤ 8 * n) }
     ensures { result ≡ zeros_below (mask_bit s.now at) p.0 }
 {
-    let q = p.0;
-    q - count_ones_below(s, at, n, p)
+    p.0 - count_ones_below(s, at, n, p)
 }
 
 // The bits of a word from bit r on.
@@ -105,35 +95,32 @@ pub fn past_lowest(w: u64) -> u64
 }
 
 // The next one in the words from byte `from` on.
-fn next_in_words(s: &[u8], at: usize, n: usize, from: usize) -> NextOne
+fn next_in_words(s: &[u8], at: usize, n: usize, from: usize) -> Option<Index>
     requires { IsMask s.now at n × (from % 8 ≡ 0) × (from ≤ n) }
-    ensures { says_next result ≡ next_one (mask_bit s.now at) (8 * n) (8 * from) }
+    ensures { result ≡ next_one (mask_bit s.now at) (8 * n) (8 * from) }
 {
-    let mut i = from;
-    while i < n {
-        let w = word(s, at, n, i);
+    for k in from / 8..n / 8 {
+        let w = word(s, at, n, 8 * k);
         if w != 0 {
-            return NextOne::At(Index(8 * (i as u32) + u64::trailing_zeros(w)));
+            return Some(Index(64 * k as u32 + w.trailing_zeros()));
         }
-        i = i + 8;
     }
-    NextOne::Nothing
+    None
 }
 
 // The next one at or after a place: in its own word, or in those that follow.
-pub fn next_one(s: &[u8], at: usize, n: usize, p: Index) -> NextOne
+pub fn next_one(s: &[u8], at: usize, n: usize, p: Index) -> Option<Index>
     requires { IsMask s.now at n × (p.0 ≤ 8 * n) }
-    ensures { says_next result ≡ next_one (mask_bit s.now at) (8 * n) p.0 }
+    ensures { result ≡ next_one (mask_bit s.now at) (8 * n) p.0 }
 {
-    let place = p.0;
-    let q = place as usize;
+    let q = p.0 as usize;
     let i = q / 64 * 8;
     if n <= i {
-        return NextOne::Nothing;
+        return None;
     }
     let high = high_bits(word(s, at, n, i), q % 64);
     if high != 0 {
-        return NextOne::At(Index(place + u64::trailing_zeros(high)));
+        return Some(Index(p.0 + high.trailing_zeros()));
     }
     next_in_words(s, at, n, i + 8)
 }
@@ -143,12 +130,10 @@ pub fn masks_overlap(s: &[u8], a: usize, b: usize, n: usize) -> bool
     requires { IsMask s.now a n × IsMask s.now b n }
     ensures { result ≡ overlap (mask_bit s.now a) (mask_bit s.now b) (8 * n) }
 {
-    let mut i = 0;
-    while i < n {
-        if word(s, a, n, i) & word(s, b, n, i) != 0 {
+    for k in 0..n / 8 {
+        if word(s, a, n, 8 * k) & word(s, b, n, 8 * k) != 0 {
             return true;
         }
-        i = i + 8;
     }
     false
 }
@@ -160,10 +145,8 @@ pub fn masks_equal(s: &[u8], a: usize, b: usize, n: usize) -> bool
     ensures { result ≡ agree (mask_bit s.now a) (mask_bit s.now b) (8 * n) }
 {
     let mut same = true;
-    let mut i: usize = 0;
-    while i < n {
-        same = same & (word(s, a, n, i) == word(s, b, n, i));
-        i = i + 8;
+    for k in 0..n / 8 {
+        same &= word(s, a, n, 8 * k) == word(s, b, n, 8 * k);
     }
     same
 }
