@@ -8,6 +8,8 @@ use lib.Signed.{mag}
 use mir.Syntax.{Width}
 use mir.Val.{to_z, of_z, hbits}
 use borrow.Author.Tests.{eq-eqb, ne_eqb, eqb-true}
+use Rattle.std.specs.Ordering.{int_eq}
+use Rattle.std.proofs.lemmas.Bool.Decides.{Decides-int_eq, same_from_decides}
 use Rattle.fields.proofs.Laws.{kept}
 use Rattle.coordinates.specs.Coordinates.{same_int, same_coord}
 use Rattle.coordinates.specs.declared.GlobalCoord.{GlobalCoord}
@@ -24,6 +26,10 @@ int_same : (a : ℤ) → same_int a a ≡ true
 unfolding same_int
 int_same (pos a) = eq-eqb a a refl
 int_same (negsuc a) = eq-eqb a a refl
+
+-- the code's `==` of two numbers
+pub int_eq-same : (a b : ℤ) → int_eq a b ≡ same_int a b
+int_eq-same a b = same_from_decides _ _ (Decides-int_eq a b) (same_int_lem a b, λ e. rw e (int_same b))
 
 -- two numbers of one signed type are the same when their bits are, from which each comes back
 pub same_bits : (w : Width) (a b : ℤ) → mag a < 2 ^ hbits w → mag b < 2 ^ hbits w → eqb (of_z w a) (of_z w b) ≡ same_int a b

@@ -18,7 +18,7 @@ pub struct Index(pub u32);
 pub struct LocalCoord(pub u32, pub u32, pub u32);
 
 // A voxel coordinate.
-#[derive(Clone, Copy)]
+#[derive(Clone, Copy, PartialEq, Eq)]
 pub struct GlobalCoord(pub i32, pub i32, pub i32);
 
 // The remainder of v by m, 0 to m - 1, also for a negative v. Adding 2147483648, a multiple of m, leaves it as it is.
@@ -26,7 +26,7 @@ fn remainder_by(v: i32, m: u32) -> u32
     requires { Divides m }
     ensures { result ≡ remainder v m }
 {
-    ((v as i64 + 2147483648) as u32) % m
+    ((i64::from(v) + 2147483648) as u32) % m
 }
 
 // One coordinate of place x along an axis of a node whose origin is o there.
@@ -85,16 +85,7 @@ pub fn is_aligned(o: GlobalCoord, m: u32) -> bool
     requires { Divides m }
     ensures { result ≡ aligned m o }
 {
-    let x = remainder_by(o.0, m);
-    let y = remainder_by(o.1, m);
-    let z = remainder_by(o.2, m);
-    if x != 0 {
-        return false;
-    }
-    if y != 0 {
-        return false;
-    }
-    z == 0
+    remainder_by(o.0, m) == 0 && remainder_by(o.1, m) == 0 && remainder_by(o.2, m) == 0
 }
 
 // One coordinate of the origin of v's root.
@@ -118,7 +109,7 @@ pub fn root_origin(v: GlobalCoord) -> GlobalCoord
 pub fn same_coord(a: GlobalCoord, b: GlobalCoord) -> bool
     ensures { result ≡ same_coord a b }
 {
-    (a.0 == b.0) & ((a.1 == b.1) & (a.2 == b.2))
+    a == b
 }
 
 // An origin read from the file.
