@@ -2,7 +2,7 @@
 use mathlib.Core.Path.{◌≡◌, refl, ap, ◌∙◌}
 use mathlib.Core.List.{List, [], ◌∷◌}
 use mathlib.Core.Bool.{Bool}
-use mathlib.Core.Option.{Option, none, some}
+use Rattle.std.proofs.Common.{Option, None, Some}
 use Prim.Native.Nat.{ℕ, suc}
 use Rattle.fields.specs.Parse.{got, when}
 use Rattle.fields.specs.Fields.{same_bytes}
@@ -49,11 +49,11 @@ pub latest-same :
     latest f i l best ≡ latest g i l best
 unfolding latest
 latest-same P f g e i [] best h = refl
-latest-same P f g e i (a ∷ l) best h = ap (λ (b : Bool). latest f (suc i) l (when b (some a) best)) (e i a h.0) ∙ latest-same P f g e (suc i) l _ h.1
+latest-same P f g e i (a ∷ l) best h = ap (λ (b : Bool). latest f (suc i) l (when b (Some a) best)) (e i a h.0) ∙ latest-same P f g e (suc i) l _ h.1
 
 pub lookup-reads : {s t : List ℕ} {lo at : ℕ} (name : List ℕ) → Reads s t lo at (lookup s name at) (lookup t name at)
 unfolding lookup
 lookup-reads {s} {t} name = then-knows metadata-tells λ es n e x. swap-reads (λ l h. ap (λ (o : Option Entry). got o n) (same es (x l h))) got-reads
   where
-    same : (es : List Entry) → Each (SameName s t) es → latest (named s name) 0 es none ≡ latest (named t name) 0 es none
-    same es = latest-same (SameName s t) _ _ (λ i e h. ap (λ (b : List ℕ). same_bytes b name) (bytes_same e.name h)) 0 es none
+    same : (es : List Entry) → Each (SameName s t) es → latest (named s name) 0 es None ≡ latest (named t name) 0 es None
+    same es = latest-same (SameName s t) _ _ (λ i e h. ap (λ (b : List ℕ). same_bytes b name) (bytes_same e.name h)) 0 es None

@@ -1,6 +1,5 @@
 -- Section 2: metadata.
-use Rattle.std.specs.Prelude.{ℕ, suc, ◌-◌, List, [], ◌∷◌, Bool, not, eqb}
-use Rattle.std.proofs.Math.Option.{Option, none, some}
+use Rattle.std.specs.Prelude.{ℕ, suc, ◌-◌, List, [], ◌∷◌, Bool, not, eqb, Option, None, Some}
 use Rattle.fields.specs.Parse.{Parse, got, then, when, times}
 use Rattle.fields.specs.Fields.{u8_field, u32_field, i32_field, i64_field, i_vec3_field, bytes_field, string_field, bytes_of, same_bytes, ascii}
 use Rattle.fields.specs.declared.Span.{Span}
@@ -57,7 +56,7 @@ metadata s at = then (u32_field s at) λ n p. times (entry s) n p
 -- Of a list's members, numbered from i, the last that is asked for: each one replaces what was found before it.
 unfoldable pub latest : {A : Type 0} → (ℕ → A → Bool) → ℕ → List A → Option A → Option A
 latest asked i [] best = best
-latest asked i (a ∷ rest) best = latest asked (suc i) rest (when (asked i a) (some a) best)
+latest asked i (a ∷ rest) best = latest asked (suc i) rest (when (asked i a) (Some a) best)
 
 -- an entry of this name
 abbrev pub named : List ℕ → List ℕ → ℕ → Entry → Bool
@@ -65,4 +64,4 @@ named s name i e = same_bytes (bytes_of s e.name) name
 
 -- the metadata at `at`, of which the entry of this name is asked for: of several, the last
 unfoldable pub lookup : List ℕ → List ℕ → ℕ → Parse (Option Entry)
-lookup s name at = then (metadata s at) λ es n. got (latest (named s name) 0 es none) n
+lookup s name at = then (metadata s at) λ es n. got (latest (named s name) 0 es None) n

@@ -1,5 +1,4 @@
 -- The test of the name chooses between the entry and what was found before it.
-use borrow.Author.Rules.{rules}
 use Rattle.fields.proofs.Steps.{steps}
 use Rattle.metadata.proofs.newer.Goals as goal
 

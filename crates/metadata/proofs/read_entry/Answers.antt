@@ -1,27 +1,24 @@
 -- The name, the kind, the length and the value, one after the other; the whole entry ends where the value ends.
-use borrow.Author.Rules.{rules}
-use Rattle.fields.specs.Says.{says_u32, says_span}
-use Rattle.fields.proofs.Steps.{then_by, steps}
+use Rattle.fields.proofs.Steps.{read, handed-on}
 use Rattle.metadata.specs.Metadata.{entry}
-use Rattle.metadata.specs.Inner.{says_kind, says_value}
 use Rattle.metadata.proofs.read_entry.Goals as goal
 
-pub returns-in-Past : goal.returns-in-Past
+pub returns-in_err-name : goal.returns-in_err-name
 unfolding entry
-returns-in-Past c = search (steps, then_by says_span)
+returns-in_err-name c = handed-on _ _ c.from_residual.ensures.1 (search (read, c.in_err-name.ensures))
 
-pub returns-in-Past-read_kind : goal.returns-in-Past-read_kind
+pub returns-in_err-k : goal.returns-in_err-k
 unfolding entry
-returns-in-Past-read_kind c = search (steps, then_by says_span, then_by says_kind)
+returns-in_err-k c = handed-on _ _ c.from_residual-in_err-k.ensures.1 (search (read, c.in_ok-name.ensures, c.in_err-k.ensures))
 
-pub returns-in-Past-read_u32 : goal.returns-in-Past-read_u32
+pub returns-in_err-n : goal.returns-in_err-n
 unfolding entry
-returns-in-Past-read_u32 c = search (steps, then_by says_span, then_by says_kind, then_by says_u32) depth 7
+returns-in_err-n c = handed-on _ _ c.from_residual-in_err-n.ensures.1 (search (read, c.in_ok-name.ensures, c.in_ok-k.ensures, c.in_err-n.ensures))
 
-pub returns-in-Past-read_value : goal.returns-in-Past-read_value
+pub returns-in_err-value : goal.returns-in_err-value
 unfolding entry
-returns-in-Past-read_value c = search (steps, then_by says_span, then_by says_kind, then_by says_u32, then_by says_value) depth 9
+returns-in_err-value c = handed-on _ _ c.from_residual-in_err-value.ensures.1 (search (read, c.in_ok-name.ensures, c.in_ok-k.ensures, c.in_ok-n.ensures, c.in_err-value.ensures) depth 9)
 
-pub returns-in-Got-read_value : goal.returns-in-Got-read_value
+pub returns : goal.returns
 unfolding entry
-returns-in-Got-read_value c = rw c.between.ensures (search (steps, then_by says_span, then_by says_kind, then_by says_u32, then_by says_value) depth 9)
+returns c = rw c.saturating_sub.ensures (search (read, c.in_ok-name.ensures, c.in_ok-k.ensures, c.in_ok-n.ensures, c.in_ok-value.ensures) depth 9)

@@ -1,30 +1,22 @@
-use borrow.Author.Rules.{rules}
-use Prim.Native.Nat.{◌≤◌, ◌-◌}
-use mathlib.Core.Path.{◌≡◌}
-use Rattle.fields.specs.Says.{says_u32}
-use Rattle.fields.proofs.Laws.{then-fails}
-use Rattle.fields.proofs.Steps.{by, via}
-use Rattle.metadata.proofs.Laws.{found as found_from, left-more, left-fails, left-none, count-whole}
-use Rattle.metadata.specs.Metadata.{named, lookup, metadata}
-use Rattle.metadata.specs.Inner.{says_entry, says_found_entry}
+use native.Mathlib.Omega.{arith}
+use mathlib.Core.Path.{◌∙◌}
+use Rattle.fields.proofs.Steps.{read, handed-on}
+use Rattle.metadata.proofs.Laws.{left-more, left-fails, left-none, count-whole}
+use Rattle.metadata.specs.Metadata.{lookup, metadata}
 use Rattle.metadata.proofs.read_metadata.Goals as goal
 
-pub returns-in_default : goal.returns-in_default
+pub returns-in_err-n : goal.returns-in_err-n
 unfolding lookup metadata
-returns-in_default c = search (then-fails, by says_u32)
+returns-in_err-n c = handed-on _ _ c.from_residual.ensures.1 (search (read, c.in_err-n.ensures))
 
-pub loop-i-init : goal.loop-i-init
-unfolding lookup metadata
-loop-i-init c = search (count-whole, by says_u32, rules)
+pub loop-init : goal.loop-init
+loop-init c = count-whole _ _ _ _ _ c.in_ok-n.ensures
 
-pub returns-in_default-read_entry : goal.returns-in_default-read_entry
-unfolding lookup metadata
-returns-in_default-read_entry c = search (left-fails, via, by says_entry, rules)
+pub returns-in_err-e : goal.returns-in_err-e
+returns-in_err-e c = handed-on _ _ c.from_residual-in_err-e.ensures.1 (left-fails _ _ _ _ _ _ _ (omega arith) c.in_err-e.ensures ∙ c.loop.invariant)
 
-pub loop-i-preserved : goal.loop-i-preserved
-unfolding lookup metadata
-loop-i-preserved c = search (left-more, via, by says_entry, rules)
+pub loop-preserved : goal.loop-preserved
+loop-preserved c = left-more _ _ _ _ _ _ _ _ _ (omega arith) c.in_ok-e.ensures c.newer-found.ensures ∙ c.loop.invariant
 
 pub returns : goal.returns
-unfolding lookup metadata
-returns c = search (left-none, via, rules)
+returns c = left-none _ _ _ _ _ _ (omega arith) ∙ c.loop.invariant

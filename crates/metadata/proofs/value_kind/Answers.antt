@@ -1,5 +1,4 @@
 -- The name is compared with six names, one after the other, in the definition's order.
-use borrow.Author.Rules.{rules}
 use Rattle.fields.proofs.Steps.{steps}
 use Rattle.metadata.specs.Metadata.{value_kind}
 use Rattle.metadata.proofs.value_kind.Goals as goal
