@@ -2,13 +2,12 @@
 use mathlib.Core.Bool.{Bool, true, false}
 use mathlib.Core.List.{List}
 use Prim.Native.Nat.{ℕ}
+use Rattle.std.proofs.Common.{Option, Some, None}
 use Rattle.fields.proofs.Agree.{Reads, reads, Tells, got-tells, then-tells, then-plain, part-tells, SameFor}
 use Rattle.fields.specs.Parse.{when}
 use Rattle.forms.specs.Forms.{form_selected, form_field, inactive_field, selection_field, inactives_field, head_field}
 use Rattle.forms.specs.declared.Coding.{Coding}
 use Rattle.forms.specs.declared.Form.{Form}
-use Rattle.forms.specs.declared.Selection.{Selection}
-use Rattle.forms.specs.declared.Selection.TheVariants.{At, Nothing}
 use Rattle.forms.specs.declared.Stored.{Stored}
 
 form-reads : {s t : List ℕ} {lo at : ℕ} (version : ℕ) → Reads s t lo at (form_field s version at) (form_field t version at)
@@ -20,9 +19,9 @@ unfolding inactive_field
 inactive-reads b other = search reads
 
 -- a selection mask of n bytes, where there is one, is the same in both files
-abbrev pub SameSelection : List ℕ → List ℕ → ℕ → Selection → Type 0
-SameSelection s t n (At at) = SameFor s t n at
-SameSelection s t n Nothing = Unit {0}
+abbrev pub SameSelection : List ℕ → List ℕ → ℕ → Option ℕ → Type 0
+SameSelection s t n (Some at) = SameFor s t n at
+SameSelection s t n None = Unit {0}
 
 selection-tells : {s t : List ℕ} {lo at : ℕ} (b : Bool) (n : ℕ) → Tells s t lo at (SameSelection s t n) (selection_field s b n at) (selection_field t b n at)
 unfolding selection_field when

@@ -1,14 +1,12 @@
 -- Section 5: what stands before a node's stored values, with check 19 of section 8.
 -- A node is given by the number n of bytes of its masks.
-use Rattle.std.specs.Prelude.{ℕ, ◌+◌, ◌-◌, ◌/◌, ◌%◌, List, Bool, not, ◌&&◌, ◌||◌, leb, ltb, eqb}
+use Rattle.std.specs.Prelude.{ℕ, ◌+◌, ◌-◌, ◌/◌, ◌%◌, List, Bool, not, ◌&&◌, ◌||◌, leb, ltb, eqb, Option, Some, None}
 use Rattle.fields.specs.Parse.{Parse, got, then, when, check}
 use Rattle.fields.specs.Fields.{u8_field, u32_field, bytes_field}
 use Rattle.forms.specs.declared.Coding.{Coding}
 use Rattle.forms.specs.declared.Form.{Form}
 use Rattle.forms.specs.declared.Stored.{Stored}
 use Rattle.forms.specs.declared.Stored.TheVariants.{Every, Active}
-use Rattle.forms.specs.declared.Selection.{Selection}
-use Rattle.forms.specs.declared.Selection.TheVariants.{At, Nothing}
 use Rattle.forms.specs.declared.Inactives.{Inactives}
 use Rattle.forms.specs.declared.ValuesHead.{ValuesHead}
 
@@ -46,12 +44,12 @@ minus v = when (ltb v 2147483648) (v + 2147483648) (v - 2147483648)
 unfoldable pub inactive_field : List ℕ → Bool → ℕ → ℕ → Parse ℕ
 inactive_field s brought other at = when brought (u32_field s at) (got other at)
 
--- the selection mask, with a bit for each place, where one is brought
-unfoldable pub selection_field : List ℕ → Bool → ℕ → ℕ → Parse Selection
+-- where the selection mask stands, with a bit for each place, where one is brought
+unfoldable pub selection_field : List ℕ → Bool → ℕ → ℕ → Parse (Option ℕ)
 selection_field s brought n at =
     when brought
-    (then (bytes_field s n at) λ w p. got (At w.start) p)
-    (got Nothing at)
+    (then (bytes_field s n at) λ w p. got (Some w.start) p)
+    (got None at)
 
 -- What the inactive places hold (N1): a first value, and a second one for those that are selected. Where the form brings none, the grid's background
 -- stands for either, negated for the first where the form says so.

@@ -4,14 +4,11 @@
 #![tactic(auto)]
 
 ghost use Rattle.std.specs.Prelude.{◌≡◌};
-ghost use Rattle.fields.specs.Parse.{field, when};
-ghost use Rattle.fields.specs.Says.{says_u32};
-ghost use Rattle.half.specs.Inner.{IsWidth};
-ghost use Rattle.half.specs.Half.{stored_value};
-ghost use Rattle.forms.specs.Forms.{may_pack, form_selected, form_field, minus, inactive_field, selection_field, inactives_field, stored_by, head_field};
-ghost use Rattle.forms.specs.Inner.{says_form, says_selection, says_inactives, says_head};
+ghost use Rattle.fields.specs.Parse.{when};
+ghost use Rattle.fields.specs.Says.{says};
+ghost use Rattle.forms.specs.Forms.{may_pack, form_of, form_field, minus, inactive_field, selection_field, inactives_field, stored_by, head_field};
 
-use fields::{SpanField, U8Field, U32Field};
+use fields::{Field, ParseError};
 
 // How a grid's values are stored: the file's version, the grid's flags, the width of a stored value, 2 or 4 bytes, and the pattern of the grid's
 // background.
@@ -35,129 +32,60 @@ pub struct Form {
 }
 
 // Which places of a node are stored: every one, the active ones, or those without a child.
-#[derive(Clone, Copy)]
+#[derive(Clone, Copy, PartialEq, Eq)]
 pub enum Stored {
     Every,
     Active,
     Childless,
 }
 
-// Where a selection mask stands, if there is one.
-#[derive(Clone, Copy)]
-pub enum Selection {
-    At(usize),
-    Nothing,
-}
-
-// What the inactive places hold: the first and the second inactive value, and the mask that selects between them.
+// What the inactive places hold: the first and the second inactive value, and where the mask stands that selects between them, if there is one.
 #[derive(Clone, Copy)]
 pub struct Inactives {
     pub first: u32,
     pub second: u32,
-    pub selection: Selection,
+    pub selection: Option<usize>,
 }
 
 // What stands before a node's run of stored values: which places are stored, and what the inactive places hold.
-#[derive(Drop)]
+#[derive(Clone, Copy)]
 pub struct ValuesHead {
     pub stored: Stored,
     pub inactives: Inactives,
-}
-
-// A form, or no byte there, or a byte that selects none. A refusal's number would overlap the form in memory, and keep the reading of a leaf's
-// block from being one straight path.
-#[derive(Drop)]
-pub enum FormField {
-    Got(Form, usize),
-    Past,
-    Unknown,
-}
-
-#[derive(Drop)]
-pub enum SelectionField {
-    Got(Selection, usize),
-    Past,
-}
-
-#[derive(Drop)]
-pub enum InactivesField {
-    Got(Inactives, usize),
-    Past,
-}
-
-#[derive(Drop)]
-pub enum ValuesHeadField {
-    Got(ValuesHead, usize),
-    Refused(u32),
 }
 
 // Whether flags say that runs of stored values may be packed.
 pub fn may_pack(flags: u32) -> bool
     ensures { result ≡ may_pack flags }
 {
-    if flags % 2 == 1 {
-        return true;
-    }
-    flags / 4 % 2 == 1
+    flags % 2 == 1 || flags / 4 % 2 == 1
 }
 
-// A row of the table of forms below.
-fn form_with(
-    has_first: bool,
-    has_second: bool,
-    negated: bool,
-    has_selection: bool,
-    only_active: bool,
-) -> Form
-    ensures { result ≡ record { has_first = has_first; has_second = has_second; negated = negated; has_selection = has_selection; only_active = only_active } }
+// What a node byte selects; one above 6 selects none.
+fn form_of(b: u8) -> Form
+    ensures { result ≡ form_of b }
 {
     Form {
-        has_first,
-        has_second,
-        negated,
-        has_selection,
-        only_active,
-    }
-}
-
-// The form that a node byte selects, with the position after the byte.
-fn select_form(b: u8, p: usize) -> FormField
-    ensures { says_form result ≡ form_selected b p }
-{
-    match b {
-        0 => FormField::Got(form_with(false, false, false, false, true), p),
-        1 => FormField::Got(form_with(false, false, true, false, true), p),
-        2 => FormField::Got(form_with(true, false, false, false, true), p),
-        3 => FormField::Got(form_with(false, false, true, true, true), p),
-        4 => FormField::Got(form_with(true, false, false, true, true), p),
-        5 => FormField::Got(form_with(true, true, false, true, true), p),
-        6 => FormField::Got(form_with(false, false, false, false, false), p),
-        7..=255 => FormField::Unknown,
+        has_first: b == 2 || b == 4 || b == 5,
+        has_second: b == 5,
+        negated: b == 1 || b == 3,
+        has_selection: b == 3 || b == 4 || b == 5,
+        only_active: b != 6,
     }
 }
 
 // The node byte's form; under 222 there is no byte, and nothing is carried.
-fn read_form(s: &[u8], version: u32, at: usize) -> FormField
-    ensures { says_form result ≡ form_field s.now version at }
+fn read_form(s: &[u8], version: u32, at: usize) -> Field<Form>
+    ensures { says result ≡ form_field s.now version at }
 {
     if version < 222 {
-        return FormField::Got(form_with(false, false, false, false, false), at);
+        return Ok((form_of(6), at));
     }
-    match fields::read_u8(s, at) {
-        U8Field::Got(b, p) => select_form(b, p),
-        U8Field::Past => FormField::Past,
+    let (b, p) = fields::read_u8(s, at)?;
+    if 6 < b {
+        return Err(ParseError::InvalidNodeMetadata);
     }
-}
-
-// A value as a field: a half, widened, where the width is 2, else four bytes.
-fn read_value(s: &[u8], at: usize, width: usize) -> U32Field
-    requires { IsWidth width }
-    ensures { says_u32 result ≡ field s.now width (stored_value s.now width at) at }
-{
-    if fields::remaining(s, at) < width {
-        return U32Field::Past;
-    }
-    U32Field::Got(half::value_at(s, at, width), at + width)
+    Ok((form_of(b), p))
 }
 
 // Minus a float, by its pattern.
@@ -181,57 +109,42 @@ fn unread(form: Form, background: u32) -> u32
 }
 
 // An inactive value, of 4 bytes whatever the width of the stored values is; where none is carried, the other one.
-fn read_inactive(s: &[u8], carried: bool, other: u32, at: usize) -> U32Field
-    ensures { says_u32 result ≡ inactive_field s.now carried other at }
+fn read_inactive(s: &[u8], carried: bool, other: u32, at: usize) -> Field<u32>
+    ensures { says result ≡ inactive_field s.now carried other at }
 {
     if carried {
-        return read_value(s, at, 4);
+        return fields::read_u32(s, at);
     }
-    U32Field::Got(other, at)
+    Ok((other, at))
 }
 
-// The first inactive value.
-fn read_first(s: &[u8], background: u32, form: Form, at: usize) -> U32Field
-    ensures { says_u32 result ≡ inactive_field s.now form.has_first (when form.negated (minus background) background) at }
+// Where a selection mask of n bytes stands, where one is carried.
+fn read_selection(s: &[u8], carried: bool, n: usize, at: usize) -> Field<Option<usize>>
+    ensures { says result ≡ selection_field s.now carried n at }
 {
-    let other = unread(form, background);
-    read_inactive(s, form.has_first, other, at)
-}
-
-// A selection mask of n bytes, where one is carried.
-fn read_selection(s: &[u8], carried: bool, n: usize, at: usize) -> SelectionField
-    ensures { says_selection result ≡ selection_field s.now carried n at }
-{
-    if carried {
-        return match fields::read_bytes(s, at, n) {
-            SpanField::Got(w, p) => SelectionField::Got(Selection::At(w.start), p),
-            SpanField::Past => SelectionField::Past,
-        };
+    if !carried {
+        return Ok((None, at));
     }
-    SelectionField::Got(Selection::Nothing, at)
+    let (mask, p) = fields::read_bytes(s, at, n)?;
+    Ok((Some(mask.start), p))
 }
 
 // What the inactive places hold: what a form carries, and the background for what it does not.
-fn read_inactives(s: &[u8], background: u32, form: Form, n: usize, at: usize) -> InactivesField
-    ensures { says_inactives result ≡ inactives_field s.now background form n at }
+fn read_inactives(s: &[u8], background: u32, form: Form, n: usize, at: usize) -> Field<Inactives>
+    ensures { says result ≡ inactives_field s.now background form n at }
 {
-    let U32Field::Got(first, p) = read_first(s, background, form, at) else {
-        return InactivesField::Past;
-    };
-    let U32Field::Got(second, q) = read_inactive(s, form.has_second, background, p) else {
-        return InactivesField::Past;
-    };
-    match read_selection(s, form.has_selection, n, q) {
-        SelectionField::Got(selection, r) => InactivesField::Got(
-            Inactives {
-                first,
-                second,
-                selection,
-            },
-            r,
-        ),
-        SelectionField::Past => InactivesField::Past,
-    }
+    let other = unread(form, background);
+    let (first, p) = read_inactive(s, form.has_first, other, at)?;
+    let (second, q) = read_inactive(s, form.has_second, background, p)?;
+    let (selection, r) = read_selection(s, form.has_selection, n, q)?;
+    Ok((
+        Inactives {
+            first,
+            second,
+            selection,
+        },
+        r,
+    ))
 }
 
 // Which places are stored; `old` is what is stored under 222.
@@ -241,28 +154,18 @@ fn stored_by(c: Coding, old: Stored, form: Form) -> Stored
     if c.version < 222 {
         return old;
     }
-    if c.flags / 2 % 2 != 1 {
-        return Stored::Every;
-    }
-    if form.only_active {
+    if c.flags / 2 % 2 == 1 && form.only_active {
         return Stored::Active;
     }
     Stored::Every
 }
 
 // What stands before the run.
-pub fn read_head(s: &[u8], c: Coding, old: Stored, n: usize, at: usize) -> ValuesHeadField
-    ensures { says_head result ≡ head_field s.now c old n at }
+pub fn read_head(s: &[u8], c: Coding, old: Stored, n: usize, at: usize) -> Field<ValuesHead>
+    ensures { says result ≡ head_field s.now c old n at }
 {
-    match read_form(s, c.version, at) {
-        FormField::Past => ValuesHeadField::Refused(2),
-        FormField::Unknown => ValuesHeadField::Refused(19),
-        FormField::Got(form, p) => match read_inactives(s, c.background, form, n, p) {
-            InactivesField::Past => ValuesHeadField::Refused(2),
-            InactivesField::Got(inactives, q) => {
-                let stored = stored_by(c, old, form);
-                ValuesHeadField::Got(ValuesHead { stored, inactives }, q)
-            }
-        },
-    }
+    let (form, p) = read_form(s, c.version, at)?;
+    let (inactives, q) = read_inactives(s, c.background, form, n, p)?;
+    let stored = stored_by(c, old, form);
+    Ok((ValuesHead { stored, inactives }, q))
 }

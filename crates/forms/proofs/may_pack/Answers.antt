@@ -8,6 +8,6 @@ pub returns-then-flags-eq1 : goal.returns-then-flags-eq1
 unfolding may_pack
 returns-then-flags-eq1 c = rw (eq-eqb (c.args.flags % 2) 1 c.if-flags-eq1.true)
 
-pub returns : goal.returns
+pub returns-else-flags-eq1 : goal.returns-else-flags-eq1
 unfolding may_pack
-returns c = rw (ne_eqb (c.args.flags % 2) 1 c.if-flags-eq1.false)
+returns-else-flags-eq1 c = rw (ne_eqb (c.args.flags % 2) 1 c.if-flags-eq1.false)

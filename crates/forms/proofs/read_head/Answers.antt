@@ -1,21 +1,16 @@
 -- Each way out is the fields up to it, as the calls found them: the form, and what it brings.
-use Rattle.fields.proofs.Steps.{steps, then_by}
+use Rattle.fields.proofs.Steps.{read, handed-on}
 use Rattle.forms.specs.Forms.{head_field}
-use Rattle.forms.specs.Inner.{says_form, says_inactives}
 use Rattle.forms.proofs.read_head.Goals as goal
 
-pub returns-in-Past : goal.returns-in-Past
+pub returns-in_err-form : goal.returns-in_err-form
 unfolding head_field
-returns-in-Past c = search (steps, then_by says_form)
+returns-in_err-form c = handed-on _ _ c.from_residual.ensures.1 (search (read, c.in_err-form.ensures))
 
-pub returns-in-Unknown : goal.returns-in-Unknown
+pub returns-in_err-inactives : goal.returns-in_err-inactives
 unfolding head_field
-returns-in-Unknown c = search (steps, then_by says_form)
+returns-in_err-inactives c = handed-on _ _ c.from_residual-in_err-inactives.ensures.1 (search (read, c.in_ok-form.ensures, c.in_err-inactives.ensures))
 
-pub returns-in-Past-read_inactives : goal.returns-in-Past-read_inactives
+pub returns : goal.returns
 unfolding head_field
-returns-in-Past-read_inactives c = search (steps, then_by says_form, then_by says_inactives)
-
-pub returns-in-Got-read_inactives : goal.returns-in-Got-read_inactives
-unfolding head_field
-returns-in-Got-read_inactives c = rw c.stored_by-stored.ensures (search (steps, then_by says_form, then_by says_inactives))
+returns c = rw c.stored_by-stored.ensures (search (read, c.in_ok-form.ensures, c.in_ok-inactives.ensures))

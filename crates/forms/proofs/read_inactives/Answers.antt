@@ -1,22 +1,21 @@
 -- Each way out is the fields up to it, as the calls found them: the first value, the second, the selection mask.
-use Rattle.fields.specs.Says.{says_u32}
-use Rattle.fields.proofs.Steps.{steps, then_by}
+use Rattle.fields.proofs.Steps.{read, handed-on}
 use Rattle.forms.specs.Forms.{inactives_field}
-use Rattle.forms.specs.Inner.{says_selection}
 use Rattle.forms.proofs.read_inactives.Goals as goal
 
-pub returns-in_default : goal.returns-in_default
+pub returns-in_err-first : goal.returns-in_err-first
 unfolding inactives_field
-returns-in_default c = search (steps, then_by says_u32)
+returns-in_err-first c = handed-on _ _ c.from_residual.ensures.1 (rw (← c.unread-other.ensures) (search (read, c.in_err-first.ensures)))
 
-pub returns-in_default-read_inactive : goal.returns-in_default-read_inactive
+pub returns-in_err-second : goal.returns-in_err-second
 unfolding inactives_field
-returns-in_default-read_inactive c = search (steps, then_by says_u32)
+returns-in_err-second c = handed-on _ _ c.from_residual-in_err-second.ensures.1 (rw (← c.unread-other.ensures) (search (read, c.in_ok-first.ensures, c.in_err-second.ensures)))
 
-pub returns-in-Got-read_selection : goal.returns-in-Got-read_selection
+pub returns-in_err-selection : goal.returns-in_err-selection
 unfolding inactives_field
-returns-in-Got-read_selection c = search (steps, then_by says_u32, then_by says_selection) depth 7
+returns-in_err-selection c = handed-on _ _ c.from_residual-in_err-selection.ensures.1
+    (rw (← c.unread-other.ensures) (search (read, c.in_ok-first.ensures, c.in_ok-second.ensures, c.in_err-selection.ensures)))
 
-pub returns-in-Past : goal.returns-in-Past
+pub returns : goal.returns
 unfolding inactives_field
-returns-in-Past c = search (steps, then_by says_u32, then_by says_selection) depth 7
+returns c = rw (← c.unread-other.ensures) (search (read, c.in_ok-first.ensures, c.in_ok-second.ensures, c.in_ok-selection.ensures))

@@ -1,17 +1,16 @@
--- The mask is carried, or there is none.
-use Rattle.fields.specs.Says.{says_span}
-use Rattle.fields.proofs.Steps.{steps, then_by}
+-- There is no mask, or it is carried.
+use Rattle.fields.proofs.Steps.{steps, handed-on}
 use Rattle.forms.specs.Forms.{selection_field}
 use Rattle.forms.proofs.read_selection.Goals as goal
 
-pub returns-in-Got : goal.returns-in-Got
+pub returns-then-not-carried : goal.returns-then-not-carried
 unfolding selection_field
-returns-in-Got c = search (steps, then_by says_span)
+returns-then-not-carried c = search steps
 
-pub returns-in-Past : goal.returns-in-Past
+pub returns-in_err-mask : goal.returns-in_err-mask
 unfolding selection_field
-returns-in-Past c = search (steps, then_by says_span)
+returns-in_err-mask c = handed-on _ _ c.from_residual.ensures.1 (search (steps, c.in_err-mask.ensures))
 
 pub returns : goal.returns
 unfolding selection_field
-returns c = search steps
+returns c = search (steps, c.in_ok-mask.ensures)
