@@ -1,19 +1,16 @@
 -- The translation is read first, and then the five vectors that both maps have.
-use borrow.Author.Rules.{rules}
-use Rattle.fields.specs.Says.{says_d_vec3}
-use Rattle.fields.proofs.Steps.{chain, then_by}
 use Rattle.transform.specs.Transform.{scale_translate_field}
-use Rattle.transform.specs.Inner.{says_scale}
+use Rattle.fields.proofs.Steps.{read, handed-on}
 use Rattle.transform.proofs.read_scale_translate.Goals as goal
 
-pub returns-in-Past : goal.returns-in-Past
+pub returns-in_err-translation : goal.returns-in_err-translation
 unfolding scale_translate_field
-returns-in-Past c = search (chain, then_by says_d_vec3)
+returns-in_err-translation c = handed-on _ _ c.from_residual.ensures.1 (search (read, c.in_err-translation.ensures))
 
-pub returns-in-Past-read_scale : goal.returns-in-Past-read_scale
+pub returns-in_err-v : goal.returns-in_err-v
 unfolding scale_translate_field
-returns-in-Past-read_scale c = search (chain, then_by says_d_vec3, then_by says_scale)
+returns-in_err-v c = handed-on _ _ c.from_residual-in_err-v.ensures.1 (search (read, c.in_ok-translation.ensures, c.in_err-v.ensures))
 
-pub returns-in-Got-read_scale : goal.returns-in-Got-read_scale
+pub returns : goal.returns
 unfolding scale_translate_field
-returns-in-Got-read_scale c = search (chain, then_by says_d_vec3, then_by says_scale)
+returns c = search (read, c.in_ok-translation.ensures, c.in_ok-v.ensures) depth 7

@@ -1,14 +1,12 @@
 -- The map's name is not whole, or the map that it stands for is read behind it.
-use borrow.Author.Rules.{rules}
-use Rattle.fields.proofs.Steps.{chain, then_by}
 use Rattle.transform.specs.Transform.{transform}
-use Rattle.transform.specs.Inner.{says_map_kind}
+use Rattle.fields.proofs.Steps.{read, handed-on}
 use Rattle.transform.proofs.read_transform.Goals as goal
 
-pub returns-in-Past : goal.returns-in-Past
+pub returns-in_err-kind : goal.returns-in_err-kind
 unfolding transform
-returns-in-Past c = search (chain, then_by says_map_kind)
+returns-in_err-kind c = handed-on _ _ c.from_residual.ensures.1 (search (read, c.in_err-kind.ensures))
 
-pub returns-in-Got : goal.returns-in-Got
+pub returns : goal.returns
 unfolding transform
-returns-in-Got c = search (chain, then_by says_map_kind)
+returns c = search (read, c.in_ok-kind.ensures)
