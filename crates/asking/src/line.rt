@@ -6,14 +6,23 @@ use crate::{file, show};
 use fields::Span;
 use std::io::{self, Read, Write};
 
+// Where in its line a character stands.
+#[derive(Clone, Copy, PartialEq, Eq)]
+pub enum Part {
+    Words,
+    // behind the colon
+    Bytes,
+    // behind the colon, in quotes
+    Quoted,
+}
+
 #[derive(Clone, Copy)]
 pub struct Line {
     // the first character; 0 before it
     pub command: u8,
     // how many words are whole
     pub words: usize,
-    // 0 before the colon, 1 after it, 2 in quotes
-    pub part: u8,
+    pub part: Part,
     // how many bytes stand before the comma
     pub grid: usize,
     // where the bytes behind it go, and how many half bytes of them are read
@@ -27,7 +36,7 @@ pub fn empty(len: usize) -> Line {
     Line {
         command: 0,
         words: 0,
-        part: 0,
+        part: Part::Words,
         grid: 0,
         start: 0,
         halves: 0,
@@ -35,12 +44,12 @@ pub fn empty(len: usize) -> Line {
     }
 }
 
-// Reads until t is full or what is read from ends, and hands back how many bytes there are.
+// Reads until t is full or what is read from ends, and hands back how many bytes there are. A read gives one byte at least, or there are no more.
 pub fn filled(from: &mut impl Read, t: &mut [u8]) -> io::Result<usize>
     ensures { IfOk result (λ n. n ≤ length t.new) }
 {
     let mut len = 0;
-    while len < t.len() {
+    for _ in 0..t.len() {
         let n = from.read(&mut t[len..])?;
         if n == 0 {
             break;
@@ -57,37 +66,38 @@ pub fn input(from: &mut impl Read, t: &mut [u8; 524288]) -> io::Result<usize>
     filled(from, t)
 }
 
-fn part(f: &[u8; 262144], start: usize, len: usize) -> &[u8] {
+fn bytes_from(f: &[u8; 262144], start: usize, len: usize) -> &[u8] {
     fields::bytes_of(f, Span { start, len })
 }
 
 // The file.
 pub fn file(m: Line, f: &[u8; 262144]) -> &[u8] {
-    part(f, 0, m.len)
+    bytes_from(f, 0, m.len)
 }
 
 // The bytes before the comma.
 pub fn grid(m: Line, f: &[u8; 262144]) -> &[u8] {
-    part(f, 200000, m.grid)
+    bytes_from(f, 200000, m.grid)
 }
 
 // The bytes after the colon, or after the comma.
 pub fn name(m: Line, f: &[u8; 262144]) -> &[u8] {
-    part(f, m.start, m.halves / 2)
+    bytes_from(f, m.start, m.halves / 2)
 }
 
 fn digit(n: &mut [u64; 8], words: usize, c: u8) {
     let k = words % 8;
-    n[k] = (n[k] % 1844674407370955162 * 10).wrapping_add((c % 16) as u64);
+    n[k] = (n[k] % 1844674407370955162 * 10).wrapping_add(u64::from(c % 16));
 }
 
 // The bytes of the command `bytes` go into the file, those of the others behind all files.
 fn colon(mut m: Line, at: u64) -> Line {
-    m.part = 1;
-    m.start = 200000;
-    if m.command == b'b' {
-        m.start = at as usize % 262144;
-    }
+    m.part = Part::Bytes;
+    m.start = if m.command == b'b' {
+        at as usize % 262144
+    } else {
+        200000
+    };
     m
 }
 
@@ -110,7 +120,7 @@ fn space(mut m: Line) -> Line {
     m
 }
 
-fn quote(mut m: Line, part: u8) -> Line {
+fn quote(mut m: Line, part: Part) -> Line {
     m.part = part;
     m
 }
@@ -140,14 +150,14 @@ fn byte(m: Line, c: u8, f: &mut [u8; 262144]) -> Line {
         b'0'..=b'9' => half(m, c, f),
         b'a'..=b'f' => half(m, c + 9, f),
         b',' => comma(m),
-        b'"' => quote(m, 2),
+        b'"' => quote(m, Part::Quoted),
         _ => m,
     }
 }
 
 fn quoted(m: Line, c: u8, f: &mut [u8; 262144]) -> Line {
     if c == b'"' {
-        return quote(m, 1);
+        return quote(m, Part::Bytes);
     }
     half(half(m, c / 16, f), c, f)
 }
@@ -162,9 +172,9 @@ pub fn read(
 ) -> io::Result<Line> {
     show::letter(out, c)?;
     Ok(match m.part {
-        0 => number(m, c, n),
-        1 => byte(m, c, f),
-        _ => quoted(m, c, f),
+        Part::Words => number(m, c, n),
+        Part::Bytes => byte(m, c, f),
+        Part::Quoted => quoted(m, c, f),
     })
 }
 
@@ -180,4 +190,26 @@ pub fn end(
     let after = file::build(command, len, f, n);
     *n = [0u64; 8];
     Ok(empty(after))
+}
+
+// Writes each line of the input again with its answer behind it. The answer's function hands back the file's length.
+pub fn run<W: Write, F: FnMut(&mut W, Line, &mut [u8; 262144], &[u64; 8]) -> io::Result<usize>>(
+    out: &mut W,
+    t: &[u8],
+    f: &mut [u8; 262144],
+    mut answer: F,
+) -> io::Result<()>
+    requires { F.IsAlwaysCallable answer }
+{
+    let mut m = empty(0);
+    let mut n = [0u64; 8];
+    for c in t {
+        if *c == b'\n' {
+            let len = answer(out, m, f, &n)?;
+            m = end(out, m.command, len, f, &mut n)?;
+        } else {
+            m = read(out, m, *c, f, &mut n)?;
+        }
+    }
+    Ok(())
 }

@@ -11,3 +11,19 @@ pub fn end(out: &mut impl Write, sum: u64) -> io::Result<()> {
     show::tag(out, b'=')?;
     show::wide(out, sum)
 }
+
+// The sum of a row's items at the places from `from` to the one before `to`.
+pub fn row<F: Fn(usize) -> u64>(
+    out: &mut impl Write,
+    from: usize,
+    to: usize,
+    item: F,
+) -> io::Result<()>
+    requires { F.IsAlwaysCallable item }
+{
+    let mut sum = 0;
+    for i in from..to {
+        sum = add(sum, item(i));
+    }
+    end(out, sum)
+}

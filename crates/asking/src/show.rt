@@ -1,5 +1,5 @@
 // What is printed of the answers: numbers and bytes, most of them after a space.
-use fields::{DVec3, IVec3, Span};
+use fields::{DVec3, IVec3, ParseError, Span};
 use std::io::{self, Write};
 
 // One character, as it is.
@@ -31,16 +31,16 @@ pub fn size(out: &mut impl Write, n: usize) -> io::Result<()> {
 }
 
 pub fn small(out: &mut impl Write, n: u32) -> io::Result<()> {
-    number(out, n as u64)
+    number(out, u64::from(n))
 }
 
 pub fn flag(out: &mut impl Write, b: bool) -> io::Result<()> {
-    number(out, b as u64)
+    number(out, u64::from(b))
 }
 
 // A pattern of 32 bits.
 pub fn pattern(out: &mut impl Write, n: u32) -> io::Result<()> {
-    wide(out, n as u64)
+    wide(out, u64::from(n))
 }
 
 pub fn wide(out: &mut impl Write, n: u64) -> io::Result<()> {
@@ -58,7 +58,7 @@ pub fn signed(out: &mut impl Write, n: i64) -> io::Result<()> {
 
 // A signed number with no space before it, as at a line's start.
 pub fn plain32(out: &mut impl Write, n: i32) -> io::Result<()> {
-    plain(out, n as i64)
+    plain(out, i64::from(n))
 }
 
 pub fn signed32(out: &mut impl Write, n: i32) -> io::Result<()> {
@@ -72,9 +72,24 @@ pub fn i_vec3(out: &mut impl Write, v: IVec3) -> io::Result<()> {
     signed32(out, v.z)
 }
 
-pub fn refused(out: &mut impl Write, k: u32) -> io::Result<()> {
+// The check that refused, by its number.
+pub fn refused(out: &mut impl Write, e: ParseError) -> io::Result<()> {
     text(out, b" refused")?;
-    small(out, k)
+    small(out, u32::from(e))
+}
+
+// What was asked for, or the check that refused.
+pub fn answer<W: Write, T: Drop, F: FnOnce(&mut W, T) -> io::Result<()>>(
+    out: &mut W,
+    a: Result<T, ParseError>,
+    shown: F,
+) -> io::Result<()>
+    requires { F.IsAlwaysCallable shown }
+{
+    match a {
+        Ok(t) => shown(out, t),
+        Err(e) => refused(out, e),
+    }
 }
 
 pub fn nothing(out: &mut impl Write) -> io::Result<()> {
@@ -111,10 +126,10 @@ fn bits(out: &mut impl Write, n: u64) -> io::Result<()> {
 
 // The double's pattern; a NaN has no one pattern.
 pub fn double(out: &mut impl Write, x: f64) -> io::Result<()> {
-    if x != x {
+    if x.is_nan() {
         text(out, b" nan")
     } else {
-        bits(out, f64::to_bits(x))
+        bits(out, x.to_bits())
     }
 }
 
