@@ -2,6 +2,7 @@
 use mathlib.Core.Path.{◌≡◌, refl}
 use mathlib.Core.List.{List}
 use mathlib.Core.Bool.{◌&&◌}
+use mathlib.Core.Logic.{◌⊎◌, inl, inr}
 use Prim.Native.Nat.{ℕ, ◌≤◌, ◌<◌}
 use lib.Dec.{leb}
 use borrow.Author.Tests.{le-leb, lt-leb, leb-true}
@@ -10,17 +11,13 @@ use Rattle.fields.proofs.Laws.{Always, got-always, then-always, check-always}
 use Rattle.fields.proofs.Steps.{check-yes, check-no}
 use Rattle.header.specs.Header.{count_field, header}
 
--- a check that a number is in a range, which is below it, above it, in it
-pub check-below : {A : Type 0} (a b n : ℕ) {k : ℕ} (p : Parse A) → n < a → fails k ≡ check (leb a n && leb n b) k p
-check-below a b n p h = check-no p refl (simp (lt-leb a n h))
-
-pub check-above : {A : Type 0} (a b n : ℕ) {k : ℕ} (p : Parse A) → a ≤ n → b < n → fails k ≡ check (leb a n && leb n b) k p
-check-above a b n p h j = check-no p refl (simp (le-leb a n h, lt-leb n b j))
+-- a check that a number is in a range, which is below or above it, or in it
+pub check-out : {A : Type 0} (a b n : ℕ) {k : ℕ} (p : Parse A) → (n < a) ⊎ (a ≤ n × b < n) → fails k ≡ check (leb a n && leb n b) k p
+check-out a b n p (inl h) = check-no p refl (simp (lt-leb a n h))
+check-out a b n p (inr h) = check-no p refl (simp (le-leb a n h.0, lt-leb n b h.1))
 
 pub check-in : {A : Type 0} (a b n k : ℕ) {p x : Parse A} → a ≤ n → n ≤ b → x ≡ p → x ≡ check (leb a n && leb n b) k p
 check-in a b n k h j = check-yes k refl (simp (le-leb a n h, le-leb n b j))
-
-pub ruleset ranges = (check-below, check-above, check-in)
 
 -- a header that was read has at most 64 grids
 pub few-grids : (s : List ℕ) → Always (λ h p. h.grid_count ≤ 64) (header s)

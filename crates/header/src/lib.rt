@@ -8,7 +8,7 @@ ghost use Rattle.fields.specs.Says.{says, says_end};
 use fields::{Field, ParseError, Span};
 
 // What stands before the identity: the version, the library's two numbers, and whether the file is packed.
-#[derive(Drop)]
+#[derive(Clone, Copy)]
 pub struct Front {
     pub version: u32,
     pub major: u32,
@@ -52,14 +52,14 @@ pub fn read_version(s: &[u8], at: usize) -> Field<u32>
 }
 
 // The offsets byte, check 5.
-pub fn read_offsets(s: &[u8], at: usize) -> Field<u32>
+pub fn read_offsets(s: &[u8], at: usize) -> Field<u8>
     ensures { says result ≡ offsets_field s.now at }
 {
     let (b, p) = fields::read_u8(s, at)?;
     if b != 1 {
         return Err(ParseError::NoGridOffsets);
     }
-    Ok((u32::from(b), p))
+    Ok((b, p))
 }
 
 // Whether the file is packed, which a byte says before version 222.

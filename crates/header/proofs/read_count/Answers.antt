@@ -1,17 +1,16 @@
 -- The number is read, and then check 8 says that it is at most 64.
-use Rattle.fields.specs.Says.{says_u32}
-use Rattle.fields.proofs.Steps.{then_by, steps}
+use Rattle.fields.proofs.Steps.{read, steps, handed-on}
 use Rattle.header.specs.Header.{count_field}
 use Rattle.header.proofs.read_count.Goals as goal
 
+pub returns-in_err-n : goal.returns-in_err-n
+unfolding count_field
+returns-in_err-n c = handed-on _ _ c.from_residual.ensures.1 (search (read, c.in_err-n.ensures))
+
 pub returns-then-n-gt64 : goal.returns-then-n-gt64
 unfolding count_field
-returns-then-n-gt64 c = search (steps, then_by says_u32)
+returns-then-n-gt64 c = search (steps, c.in_ok-n.ensures)
 
-pub returns-in-Past : goal.returns-in-Past
+pub returns : goal.returns
 unfolding count_field
-returns-in-Past c = search (steps, then_by says_u32)
-
-pub returns-else-n-gt64 : goal.returns-else-n-gt64
-unfolding count_field
-returns-else-n-gt64 c = search (steps, then_by says_u32)
+returns c = search (steps, c.in_ok-n.ensures)

@@ -1,26 +1,32 @@
--- The file's first eight bytes, the version and the library's two numbers, one after the other; the last call reads the rest.
-use Rattle.fields.specs.Says.{says_u32}
-use Rattle.fields.proofs.Steps.{then_by, steps}
+-- The file's first eight bytes, the version, the library's two numbers, the offsets byte and the packed byte, one after the other.
+use Rattle.fields.proofs.Steps.{read, handed-on}
 use Rattle.header.specs.Header.{front_field}
-use Rattle.header.specs.Inner.{says_magic, says_number}
 use Rattle.header.proofs.read_front.Goals as goal
 
-pub returns-in-Refused : goal.returns-in-Refused
+pub returns-in_err-o : goal.returns-in_err-o
 unfolding front_field
-returns-in-Refused c = search (steps, then_by says_magic)
+returns-in_err-o c = handed-on _ _ c.from_residual.ensures.1 (search (read, c.in_err-o.ensures))
 
-pub returns-in-Refused-read_version : goal.returns-in-Refused-read_version
+pub returns-in_err-version : goal.returns-in_err-version
 unfolding front_field
-returns-in-Refused-read_version c = search (steps, then_by says_magic, then_by says_number)
+returns-in_err-version c = handed-on _ _ c.from_residual-in_err-version.ensures.1 (search (read, c.in_ok-o.ensures, c.in_err-version.ensures))
 
-pub returns-in-Past : goal.returns-in-Past
+pub returns-in_err-major : goal.returns-in_err-major
 unfolding front_field
-returns-in-Past c = search (steps, then_by says_magic, then_by says_number, then_by says_u32) depth 7
+returns-in_err-major c = handed-on _ _ c.from_residual-in_err-major.ensures.1 (search (read, c.in_ok-o.ensures, c.in_ok-version.ensures, c.in_err-major.ensures) depth 9)
 
-pub returns-in-Past-read_u32 : goal.returns-in-Past-read_u32
+pub returns-in_err-minor : goal.returns-in_err-minor
 unfolding front_field
-returns-in-Past-read_u32 c = search (steps, then_by says_magic, then_by says_number, then_by says_u32) depth 9
+returns-in_err-minor c = handed-on _ _ c.from_residual-in_err-minor.ensures.1 (search (read, c.in_ok-o.ensures, c.in_ok-version.ensures, c.in_ok-major.ensures, c.in_err-minor.ensures) depth 9)
 
-pub returns-in-Got-read_u32-2 : goal.returns-in-Got-read_u32-2
+pub returns-in_err-t : goal.returns-in_err-t
 unfolding front_field
-returns-in-Got-read_u32-2 c = search (steps, then_by says_magic, then_by says_number, then_by says_u32) depth 9
+returns-in_err-t c = handed-on _ _ c.from_residual-in_err-t.ensures.1 (search (read, c.in_ok-o.ensures, c.in_ok-version.ensures, c.in_ok-major.ensures, c.in_ok-minor.ensures, c.in_err-t.ensures) depth 11)
+
+pub returns-in_err-packed : goal.returns-in_err-packed
+unfolding front_field
+returns-in_err-packed c = handed-on _ _ c.from_residual-in_err-packed.ensures.1 (search (read, c.in_ok-o.ensures, c.in_ok-version.ensures, c.in_ok-major.ensures, c.in_ok-minor.ensures, c.in_ok-t.ensures, c.in_err-packed.ensures) depth 13)
+
+pub returns : goal.returns
+unfolding front_field
+returns c = search (read, c.in_ok-o.ensures, c.in_ok-version.ensures, c.in_ok-major.ensures, c.in_ok-minor.ensures, c.in_ok-t.ensures, c.in_ok-packed.ensures) depth 13

@@ -1,31 +1,29 @@
 -- Check 1, then the fields in their order. Of the metadata only the end is used, whatever name is looked for.
-use Rattle.fields.specs.Says.{says_span}
-use Rattle.fields.proofs.Steps.{then_by, steps}
-use Rattle.metadata.proofs.Laws.{metadata-by}
+use Rattle.fields.proofs.Steps.{steps, handed-on}
+use Rattle.metadata.proofs.Laws.{metadata-got, metadata-fails}
 use Rattle.header.specs.Header.{header}
-use Rattle.header.specs.Inner.{says_front, says_number}
 use Rattle.header.proofs.read_header.Goals as goal
 
 pub returns-then-s-gt2147483647 : goal.returns-then-s-gt2147483647
 unfolding header
 returns-then-s-gt2147483647 c = search steps
 
-pub returns-in-Refused : goal.returns-in-Refused
+pub returns-in_err-front : goal.returns-in_err-front
 unfolding header
-returns-in-Refused c = search (steps, then_by says_front)
+returns-in_err-front c = handed-on _ _ c.from_residual.ensures.1 (search (steps, c.in_err-front.ensures))
 
-pub returns-in-Past : goal.returns-in-Past
+pub returns-in_err-guid : goal.returns-in_err-guid
 unfolding header
-returns-in-Past c = search (steps, then_by says_front, then_by says_span)
+returns-in_err-guid c = handed-on _ _ c.from_residual-in_err-guid.ensures.1 (search (steps, c.in_ok-front.ensures, c.in_err-guid.ensures))
 
-pub returns-in-Past-read_metadata : goal.returns-in-Past-read_metadata
+pub returns-in_err-r : goal.returns-in_err-r
 unfolding header
-returns-in-Past-read_metadata c = search (steps, then_by says_front, then_by says_span, metadata-by) depth 8
+returns-in_err-r c = handed-on _ _ c.from_residual-in_err-r.ensures.1 (search (steps, metadata-fails, c.in_ok-front.ensures, c.in_ok-guid.ensures, c.in_err-r.ensures) depth 9)
 
-pub returns-in-Refused-read_count : goal.returns-in-Refused-read_count
+pub returns-in_err-count : goal.returns-in_err-count
 unfolding header
-returns-in-Refused-read_count c = search (steps, then_by says_front, then_by says_span, then_by says_number, metadata-by) depth 10
+returns-in_err-count c = handed-on _ _ c.from_residual-in_err-count.ensures.1 (search (steps, metadata-got, c.in_ok-front.ensures, c.in_ok-guid.ensures, c.in_ok-r.ensures, c.in_err-count.ensures) depth 11)
 
-pub returns-in-Got-read_count : goal.returns-in-Got-read_count
+pub returns : goal.returns
 unfolding header
-returns-in-Got-read_count c = search (steps, then_by says_front, then_by says_span, then_by says_number, metadata-by) depth 11
+returns c = search (steps, metadata-got, c.in_ok-front.ensures, c.in_ok-guid.ensures, c.in_ok-r.ensures, c.in_ok-count.ensures) depth 11

@@ -1,17 +1,16 @@
 -- Eight bytes are read, and then check 3 compares them.
-use Rattle.fields.specs.Says.{says_span}
-use Rattle.fields.proofs.Steps.{then_by, steps}
+use Rattle.fields.proofs.Steps.{read, steps, handed-on-end}
 use Rattle.header.specs.Header.{magic_field}
 use Rattle.header.proofs.read_magic.Goals as goal
 
-pub returns-then-has_bytes : goal.returns-then-has_bytes
+pub returns-in_err-m : goal.returns-in_err-m
 unfolding magic_field
-returns-then-has_bytes c = search (steps, then_by says_span)
+returns-in_err-m c = handed-on-end _ _ c.from_residual.ensures.1 (search (read, c.in_err-m.ensures))
 
-pub returns-in-Past : goal.returns-in-Past
+pub returns-then-not-has_bytes : goal.returns-then-not-has_bytes
 unfolding magic_field
-returns-in-Past c = search (steps, then_by says_span)
+returns-then-not-has_bytes c = search (steps, c.in_ok-m.ensures)
 
-pub returns-else-has_bytes : goal.returns-else-has_bytes
+pub returns : goal.returns
 unfolding magic_field
-returns-else-has_bytes c = search (steps, then_by says_span)
+returns c = search (steps, c.in_ok-m.ensures)

@@ -1,6 +1,5 @@
 -- From version 222 on nothing is read; before it one byte is.
-use Rattle.fields.specs.Inner.{says_u8}
-use Rattle.fields.proofs.Steps.{then_by, steps}
+use Rattle.fields.proofs.Steps.{steps, handed-on}
 use Rattle.header.specs.Header.{packed_field}
 use Rattle.header.proofs.read_packed.Goals as goal
 
@@ -8,10 +7,10 @@ pub returns-then-version-ge222 : goal.returns-then-version-ge222
 unfolding packed_field
 returns-then-version-ge222 c = search steps
 
-pub returns-in-Past : goal.returns-in-Past
+pub returns-in_err-b : goal.returns-in_err-b
 unfolding packed_field
-returns-in-Past c = search (steps, then_by says_u8)
+returns-in_err-b c = handed-on _ _ c.from_residual.ensures.1 (search (steps, c.in_err-b.ensures))
 
-pub returns-in-Got : goal.returns-in-Got
+pub returns : goal.returns
 unfolding packed_field
-returns-in-Got c = search (steps, then_by says_u8)
+returns c = search (steps, c.in_ok-b.ensures)
