@@ -1,26 +1,11 @@
 -- Inner matter: only contracts of inner functions cite it, and nothing here has to be believed.
 use Rattle.std.specs.Prelude.{ℕ, ◌+◌, ◌*◌, ◌≤◌, List, length}
-use Rattle.fields.specs.Parse.{Parse, got, fails}
-use Rattle.fields.specs.declared.Span.{Span}
 use Rattle.masks.specs.Inner.{IsMask}
 use Rattle.half.specs.Inner.{IsWidth}
 use Rattle.forms.specs.Inner.{SelectionHeld}
 use Rattle.forms.specs.declared.Coding.{Coding}
 use Rattle.runs.specs.Runs.{count_of}
 use Rattle.runs.specs.declared.Values.{Values}
-use Rattle.runs.specs.declared.RunField.{RunField}
-use Rattle.runs.specs.declared.RunField.TheVariants.{Got as GotRun, Refused as RefusedRun}
-use Rattle.runs.specs.declared.ValuesField.{ValuesField}
-use Rattle.runs.specs.declared.ValuesField.TheVariants.{Got as GotValues, Refused as RefusedValues}
-
--- What each answer of the code says.
-abbrev pub says_run : RunField → Parse Span
-says_run (GotRun w n) = got w n
-says_run (RefusedRun k) = fails k
-
-abbrev pub says_values : ValuesField → Parse Values
-says_values (GotValues v n) = got v n
-says_values (RefusedValues k) = fails k
 
 -- What the readers of a place ask, and values that were read have: the width is 2 or 4, and masks and run lie in the file.
 pub record Held (s : List ℕ) (c : Coding) (n child value : ℕ) (v : Values) : Type 0 where

@@ -7,13 +7,13 @@ ghost use Rattle.std.specs.Prelude.{◌≡◌, ◌*◌, ◌≤◌, ◌<◌};
 ghost use Rattle.masks.specs.Masks.{mask_bit, count_below};
 ghost use Rattle.masks.specs.Inner.{IsMask};
 ghost use Rattle.half.specs.Inner.{IsWidth};
-ghost use Rattle.fields.specs.Inner.{end_of, says_end};
-ghost use Rattle.runs.specs.Runs.{is_stored, number_of, count_of, is_sized, size_checked, number_field, run_field, values_field};
-ghost use Rattle.runs.specs.Inner.{says_run, says_values};
+ghost use Rattle.fields.specs.Inner.{end_of};
+ghost use Rattle.fields.specs.Says.{says, says_end};
+ghost use Rattle.runs.specs.Runs.{is_stored, number_of, count_of, is_sized, number_field, run_field, values_field};
 
 use coordinates::Index;
-use fields::{EndField, I64Field, Span, SpanField};
-use forms::{Coding, Inactives, Stored, ValuesHeadField};
+use fields::{Field, ParseError, Span};
+use forms::{Coding, Inactives, Stored};
 
 // A node's values: which places are stored, what the inactive places hold, and where the run of stored values starts.
 #[derive(Clone, Copy)]
@@ -21,18 +21,6 @@ pub struct Values {
     pub stored: Stored,
     pub inactives: Inactives,
     pub start: usize,
-}
-
-#[derive(Drop)]
-pub enum RunField {
-    Got(Span, usize),
-    Refused(u32),
-}
-
-#[derive(Drop)]
-pub enum ValuesField {
-    Got(Values, usize),
-    Refused(u32),
 }
 
 // How many values are stored, where the value mask has so many ones. The callers of this function and of those below have tested that the
@@ -52,42 +40,32 @@ fn count_of(s: &[u8], stored: Stored, n: usize, child: usize, value: usize, ones
 fn is_sized(c: Coding, count: usize) -> bool
     ensures { result ≡ is_sized c count }
 {
-    if !forms::may_pack(c.flags) {
-        return false;
-    }
-    if c.width != 2 {
-        return true;
-    }
-    count != 0
+    forms::may_pack(c.flags) && (c.width != 2 || count != 0)
 }
 
-// The number before a run that takes so many bytes; p is behind it.
-fn check_size(bytes: usize, number: i64, p: usize) -> EndField
-    requires { bytes ≤ 131072 }
-    ensures { says_end result ≡ size_checked bytes number p }
-{
-    if 0 < number {
-        return EndField::Refused(6);
-    }
-    if number != -(bytes as i64) {
-        return EndField::Refused(25);
-    }
-    EndField::Got(p)
-}
-
-// The same where there is one. It is only compared: a run's end follows from the count of its values, so that what stands behind it does not wait for the
-// number.
-fn read_number(s: &[u8], c: Coding, count: usize, bytes: usize, at: usize) -> EndField
+// The number before a run of so many values that take so many bytes, where there is one. It is only compared: a run's end follows from the count of its
+// values, so that what stands behind it does not wait for the number.
+fn read_number(
+    s: &[u8],
+    c: Coding,
+    count: usize,
+    bytes: usize,
+    at: usize,
+) -> Result<usize, ParseError>
     requires { (count ≤ 32768) × IsWidth c.width × (bytes ≡ count * c.width) }
     ensures { says_end result ≡ number_field s.now c count at }
 {
-    if is_sized(c, count) {
-        return match fields::read_i64(s, at) {
-            I64Field::Got(number, p) => check_size(bytes, number, p),
-            I64Field::Past => EndField::Refused(2),
-        };
+    if !is_sized(c, count) {
+        return Ok(at);
     }
-    EndField::Got(at)
+    let (number, p) = fields::read_i64(s, at)?;
+    if 0 < number {
+        return Err(ParseError::PackedGrid);
+    }
+    if number != -(bytes as i64) {
+        return Err(ParseError::InvalidRunSize);
+    }
+    Ok(p)
 }
 
 // The run of the stored values of a node, with the number before it: no value is looked at. The caller has counted the ones of the value mask.
@@ -100,19 +78,14 @@ fn read_run(
     value: usize,
     ones: usize,
     at: usize,
-) -> RunField
+) -> Field<Span>
     requires { IsMask s.now child n × IsMask s.now value n × IsWidth c.width × (ones ≡ count_below (mask_bit s.now value) (8 * n)) }
-    ensures { says_run result ≡ run_field s.now c (count_of s.now stored n child value) at }
+    ensures { says result ≡ run_field s.now c (count_of s.now stored n child value) at }
 {
     let count = count_of(s, stored, n, child, value, ones);
     let bytes = count * c.width;
-    match read_number(s, c, count, bytes, at) {
-        EndField::Refused(k) => RunField::Refused(k),
-        EndField::Got(p) => match fields::read_bytes(s, p, bytes) {
-            SpanField::Past => RunField::Refused(2),
-            SpanField::Got(run, e) => RunField::Got(run, e),
-        },
-    }
+    let p = read_number(s, c, count, bytes, at)?;
+    fields::read_bytes(s, p, bytes)
 }
 
 // The values of a node at a position.
@@ -124,29 +97,19 @@ pub fn read_values(
     child: usize,
     value: usize,
     at: usize,
-) -> ValuesField
+) -> Field<Values>
     requires { IsMask s.now child n × IsMask s.now value n × IsWidth c.width }
-    ensures { says_values result ≡ values_field s.now c old n child value at }
+    ensures { says result ≡ values_field s.now c old n child value at }
 {
     let ones = masks::count_ones(s, value, n) as usize;
-    match forms::read_head(s, c, old, n, at) {
-        ValuesHeadField::Refused(k) => ValuesField::Refused(k),
-        ValuesHeadField::Got(head, p) => {
-            let stored = head.stored;
-            let inactives = head.inactives;
-            match read_run(s, c, stored, n, child, value, ones, p) {
-                RunField::Refused(k) => ValuesField::Refused(k),
-                RunField::Got(run, e) => ValuesField::Got(
-                    Values {
-                        stored,
-                        inactives,
-                        start: run.start,
-                    },
-                    e,
-                ),
-            }
-        }
-    }
+    let (head, p) = forms::read_head(s, c, old, n, at)?;
+    let (run, e) = read_run(s, c, head.stored, n, child, value, ones, p)?;
+    let v = Values {
+        stored: head.stored,
+        inactives: head.inactives,
+        start: run.start,
+    };
+    Ok((v, e))
 }
 
 // Where the values of a node end, with the ones of the value mask counted by the caller. It stands apart from `read_values` so that it has one caller, the
@@ -160,20 +123,13 @@ pub fn pass_values(
     value: usize,
     ones: usize,
     at: usize,
-) -> EndField
+) -> Result<usize, ParseError>
     requires { IsMask s.now child n × IsMask s.now value n × IsWidth c.width × (ones ≡ count_below (mask_bit s.now value) (8 * n)) }
     ensures { says_end result ≡ end_of (values_field s.now c old n child value at) }
 {
-    match forms::read_head(s, c, old, n, at) {
-        ValuesHeadField::Refused(k) => EndField::Refused(k),
-        ValuesHeadField::Got(head, p) => {
-            let stored = head.stored;
-            match read_run(s, c, stored, n, child, value, ones, p) {
-                RunField::Refused(k) => EndField::Refused(k),
-                RunField::Got(_, e) => EndField::Got(e),
-            }
-        }
-    }
+    let (head, p) = forms::read_head(s, c, old, n, at)?;
+    let (_, e) = read_run(s, c, head.stored, n, child, value, ones, p)?;
+    Ok(e)
 }
 
 // Whether a place is stored.

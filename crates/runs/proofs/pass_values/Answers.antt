@@ -1,15 +1,13 @@
 -- The same of which only the end is kept.
-use Rattle.fields.proofs.Steps.{steps, then_by, via}
-use Rattle.forms.specs.Inner.{says_head}
-use Rattle.runs.specs.Inner.{says_run}
+use Rattle.fields.proofs.Steps.{read, handed-on-end, via}
 use Rattle.runs.proofs.Laws.{values-end}
 use Rattle.runs.proofs.pass_values.Goals as goal
 
-pub returns-in-Refused : goal.returns-in-Refused
-returns-in-Refused c = via (values-end _ _ _ _ _ _ _) (search (steps, then_by says_head))
+pub returns-in_err-head : goal.returns-in_err-head
+returns-in_err-head c = via (values-end _ _ _ _ _ _ _) (handed-on-end _ _ c.from_residual.ensures.1 (search (read, c.in_err-head.ensures)))
 
-pub returns-in-Refused-read_run : goal.returns-in-Refused-read_run
-returns-in-Refused-read_run c = via (values-end _ _ _ _ _ _ _) (search (steps, then_by says_head, then_by says_run))
+pub returns-in_err-e : goal.returns-in_err-e
+returns-in_err-e c = via (values-end _ _ _ _ _ _ _) (handed-on-end _ _ c.from_residual-in_err-e.ensures.1 (search (read, c.in_ok-head.ensures, c.in_err-e.ensures)))
 
-pub returns-in-Got-read_run : goal.returns-in-Got-read_run
-returns-in-Got-read_run c = via (values-end _ _ _ _ _ _ _) (search (steps, then_by says_head, then_by says_run))
+pub returns : goal.returns
+returns c = via (values-end _ _ _ _ _ _ _) (search (read, c.in_ok-head.ensures, c.in_ok-e.ensures))

@@ -3,9 +3,7 @@ use mathlib.Core.Path.{refl}
 use Prim.Native.Nat.{◌≤◌}
 use native.Mathlib.Nat.{mul-le-mul}
 use native.Mathlib.Omega.{arith}
-use Rattle.fields.specs.Inner.{says_end}
-use Rattle.fields.specs.Says.{says_span}
-use Rattle.fields.proofs.Steps.{steps, then_by, by}
+use Rattle.fields.proofs.Steps.{read, handed-on}
 use Rattle.runs.specs.Runs.{run_field}
 use Rattle.runs.proofs.Laws.{count_small}
 use Rattle.runs.proofs.read_run.Goals as goal
@@ -18,14 +16,10 @@ pub read_number-requires : goal.read_number-requires
 read_number-requires c =
     let few : c.count_of-count.result ≤ 32768 = rw c.count_of-count.ensures (count_small _ _ c.requires.0.small) in (few, c.requires.2, refl)
 
-pub returns-in-Refused : goal.returns-in-Refused
+pub returns-in_err-p : goal.returns-in_err-p
 unfolding run_field
-returns-in-Refused c = rw (← c.count_of-count.ensures) (search (steps, then_by says_end))
+returns-in_err-p c = rw (← c.count_of-count.ensures) (handed-on _ _ c.from_residual.ensures.1 (search (read, c.in_err-p.ensures)))
 
-pub returns-in-Past : goal.returns-in-Past
+pub returns : goal.returns
 unfolding run_field
-returns-in-Past c = rw (← c.count_of-count.ensures) (search (steps, then_by says_end, by says_span))
-
-pub returns-in-Got-read_bytes : goal.returns-in-Got-read_bytes
-unfolding run_field
-returns-in-Got-read_bytes c = rw (← c.count_of-count.ensures) (search (steps, then_by says_end, by says_span))
+returns c = rw (← c.count_of-count.ensures) (search (read, c.in_ok-p.ensures))

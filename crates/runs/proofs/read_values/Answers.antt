@@ -1,18 +1,16 @@
 -- Each way out is the fields up to it, as the calls found them: what stands before the run, and the run.
-use Rattle.fields.proofs.Steps.{steps, then_by}
-use Rattle.forms.specs.Inner.{says_head}
+use Rattle.fields.proofs.Steps.{read, handed-on}
 use Rattle.runs.specs.Runs.{values_field}
-use Rattle.runs.specs.Inner.{says_run}
 use Rattle.runs.proofs.read_values.Goals as goal
 
-pub returns-in-Refused : goal.returns-in-Refused
+pub returns-in_err-head : goal.returns-in_err-head
 unfolding values_field
-returns-in-Refused c = search (steps, then_by says_head)
+returns-in_err-head c = handed-on _ _ c.from_residual.ensures.1 (search (read, c.in_err-head.ensures))
 
-pub returns-in-Refused-read_run : goal.returns-in-Refused-read_run
+pub returns-in_err-run : goal.returns-in_err-run
 unfolding values_field
-returns-in-Refused-read_run c = search (steps, then_by says_head, then_by says_run)
+returns-in_err-run c = handed-on _ _ c.from_residual-in_err-run.ensures.1 (search (read, c.in_ok-head.ensures, c.in_err-run.ensures))
 
-pub returns-in-Got-read_run : goal.returns-in-Got-read_run
+pub returns : goal.returns
 unfolding values_field
-returns-in-Got-read_run c = search (steps, then_by says_head, then_by says_run)
+returns c = search (read, c.in_ok-head.ensures, c.in_ok-run.ensures)
