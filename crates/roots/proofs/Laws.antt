@@ -10,7 +10,7 @@ use lib.ListN.{length, get_or}
 use lib.Seq.{slice, slice-cons, slice_empty}
 use borrow.Author.Tests.{leb-true, leb-false, not-true}
 use Rattle.fields.specs.Parse.{got, fails, then, many, times, check}
-use Rattle.fields.specs.Fields.{bytes_field}
+use Rattle.fields.specs.Fields.{u32_field, bytes_field}
 use Rattle.fields.specs.declared.Span.{Span}
 use Rattle.fields.specs.declared.IVec3.{IVec3}
 use Rattle.fields.proofs.Laws.{then-fails, then-got, Always, then-always, check-always, got-always}
@@ -19,7 +19,33 @@ use Rattle.fields.proofs.Ends.{made_ends, many-ends, field-ends}
 use Rattle.coordinates.specs.Coordinates.{aligned, same_coord, origin_of}
 use Rattle.coordinates.specs.declared.GlobalCoord.{GlobalCoord}
 use Rattle.coordinates.proofs.Axis.{and_both}
-use Rattle.roots.specs.Roots.{is_among, origin_field, root_count_field, tiles_field, tree_head_field}
+use Rattle.fields.proofs.Steps.{check-eq, check-ne, check-le, check-gt}
+use Rattle.roots.specs.Roots.{is_among, origin_field, buffers_field, root_count_field, tiles_field, tree_head_field}
+
+-- a count of buffers that passes check 15, and a number of roots that passes check 16 or does not
+pub one-buffer : (s : List ℕ) (at : ℕ) {n p : ℕ} → got n p ≡ u32_field s at → n ≡ 1 → got n p ≡ buffers_field s at
+unfolding buffers_field
+one-buffer s at e h = then-got _ e (check-eq _ _ 15 h refl)
+
+pub other-buffers : (s : List ℕ) (at : ℕ) {n p : ℕ} → got n p ≡ u32_field s at → (n ≡ 1 → ⊥) → fails 15 ≡ buffers_field s at
+unfolding buffers_field
+other-buffers s at e h = then-got _ e (check-ne _ _ _ h)
+
+pub few-roots : (s : List ℕ) (limit at : ℕ) {n p : ℕ} → got n p ≡ u32_field s at → n ≤ limit → got n p ≡ root_count_field s limit at
+unfolding root_count_field
+few-roots s limit at e h = then-got _ e (check-le _ _ 16 h refl)
+
+pub many-roots : (s : List ℕ) (limit at : ℕ) {n p : ℕ} → got n p ≡ u32_field s at → limit < n → fails 16 ≡ root_count_field s limit at
+unfolding root_count_field
+many-roots s limit at e h = then-got _ e (check-gt _ _ _ h)
+
+pub no-count : (s : List ℕ) (at : ℕ) {k : ℕ} → fails k ≡ u32_field s at → fails k ≡ buffers_field s at
+unfolding buffers_field
+no-count s at e = then-fails _ e
+
+pub no-root-count : (s : List ℕ) (limit at : ℕ) {k : ℕ} → fails k ≡ u32_field s at → fails k ≡ root_count_field s limit at
+unfolding root_count_field
+no-root-count s limit at e = then-fails _ e
 
 -- Root tiles that are passed one by one are passed by one length.
 tiles-got :

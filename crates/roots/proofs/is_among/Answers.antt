@@ -1,21 +1,17 @@
 -- Where the origin is among those from here on, it is the next, or among those behind it.
-use borrow.Author.Rules.{rules}
 use Rattle.roots.proofs.Laws.{among-here, among_later, among_none}
 use Rattle.fields.proofs.Laws.{is_true, is_false}
-use mathlib.Core.Path.{refl, ◌∙◌}
+use mathlib.Core.Path.{◌∙◌}
 use native.Mathlib.Omega.{arith}
 use Rattle.roots.proofs.is_among.Goals as goal
 
-pub loop-k-init : goal.loop-k-init
-loop-k-init c = (search rules, refl)
-
 pub returns-then-same_coord : goal.returns-then-same_coord
 returns-then-same_coord c =
-    among-here c.args.o c.args.origins c.loop-k.k c.args.n _ (omega arith) (omega arith) (is_true c.if-same_coord.true c.same_coord.ensures) ∙ c.loop-k.invariant.1
+    among-here c.args.o c.args.origins c.loop-k.k c.args.n _ (omega arith) (omega arith) (is_true c.if-same_coord.true c.same_coord.ensures) ∙ c.loop-k.invariant
 
 pub loop-k-preserved : goal.loop-k-preserved
 loop-k-preserved c =
-    (omega arith, among_later c.args.o c.args.origins c.loop-k.k c.args.n _ (omega arith) (omega arith) (is_false c.if-same_coord.false c.same_coord.ensures) ∙ c.loop-k.invariant.1)
+    among_later c.args.o c.args.origins c.loop-k.k c.args.n _ (omega arith) (omega arith) (is_false c.if-same_coord.false c.same_coord.ensures) ∙ c.loop-k.invariant
 
 pub returns : goal.returns
-returns c = among_none c.args.o c.args.origins c.loop-k.k c.args.n (omega arith) ∙ c.loop-k.invariant.1
+returns c = among_none c.args.o c.args.origins c.loop-k.k c.args.n (omega arith) ∙ c.loop-k.invariant

@@ -1,58 +1,37 @@
--- The fields in their order; each way out is the definition up to the field that fails.
-use mathlib.Core.Path.{◌≡◌, refl}
-use mathlib.Core.List.{List}
-use Prim.Native.Nat.{ℕ}
-use Rattle.fields.specs.Parse.{Parse, got, then}
-use Rattle.fields.specs.Fields.{u32_field}
-use Rattle.fields.specs.Says.{says_u32}
-use Rattle.fields.proofs.Laws.{then-got, then-fails, told}
-use Rattle.fields.proofs.Steps.{steps, then_by}
-use Rattle.roots.specs.Roots.{buffers_field, tree_head_field, root_count_field, tiles_field}
-use Rattle.roots.specs.Inner.{says_count, says_tiles}
-use Rattle.roots.specs.declared.TreeHead.{TreeHead}
+-- The fields in their order; each way out is the definition up to the field or the check that fails.
+use Rattle.fields.proofs.Steps.{read, handed-on}
+use Rattle.roots.specs.Roots.{tree_head_field}
+use Rattle.roots.proofs.Laws.{one-buffer, other-buffers, few-roots, many-roots, no-count, no-root-count}
 use Rattle.roots.proofs.read_tree_head.Goals as goal
 
--- the fields behind the number of tiles
-abbrev rest : List ℕ → ℕ → ℕ → ℕ → ℕ → Parse TreeHead
-rest s limit background tiles r =
-    then (root_count_field s limit r) λ roots t.
-    then (tiles_field s tiles t) λ passed n.
-    got (record { background = background; tiles_pos = t; tile_count = tiles; roots_pos = n; root_count = roots }) n
-
--- and those before it, as they were read
-behind :
-    (s : List ℕ) (limit at : ℕ) {one p background q tiles r : ℕ} {x : Parse TreeHead} → got one p ≡ buffers_field s at → got background q ≡ u32_field s p →
-    got tiles r ≡ u32_field s q → x ≡ rest s limit background tiles r → x ≡ tree_head_field s limit at
+pub returns-in_err-buffers : goal.returns-in_err-buffers
 unfolding tree_head_field
-behind s limit at a b c e = then-got _ a (then-got _ b (then-got _ c e))
+returns-in_err-buffers c = handed-on _ _ c.from_residual.ensures.1 (search (read, no-count _ _ c.in_err-buffers.ensures))
 
-pub returns-in-Refused : goal.returns-in-Refused
+pub returns-then-buffers-ne1 : goal.returns-then-buffers-ne1
 unfolding tree_head_field
-returns-in-Refused c = search (steps, then_by says_count)
+returns-then-buffers-ne1 c = search (read, other-buffers _ _ c.in_ok-buffers.ensures c.if-buffers-ne1.true)
 
-pub returns-in_default : goal.returns-in_default
+pub returns-in_err-background : goal.returns-in_err-background
 unfolding tree_head_field
-returns-in_default c = search (steps, then_by says_count, then_by says_u32)
+returns-in_err-background c = handed-on _ _ c.from_residual-in_err-background.ensures.1 (search (read, one-buffer _ _ c.in_ok-buffers.ensures c.if-buffers-ne1.false, c.in_err-background.ensures))
 
-pub returns-in_default-read_u32 : goal.returns-in_default-read_u32
+pub returns-in_err-tile_count : goal.returns-in_err-tile_count
 unfolding tree_head_field
-returns-in_default-read_u32 c = search (steps, then_by says_count, then_by says_u32) depth 6
+returns-in_err-tile_count c = handed-on _ _ c.from_residual-in_err-tile_count.ensures.1 (search (read, one-buffer _ _ c.in_ok-buffers.ensures c.if-buffers-ne1.false, c.in_ok-background.ensures, c.in_err-tile_count.ensures) depth 7)
 
-pub returns-in-Refused-read_root_count : goal.returns-in-Refused-read_root_count
-returns-in-Refused-read_root_count c =
-    behind _ _ _ (told says_count c.in-Got.is c.read_buffer_count.ensures) (told says_u32 c.in-Got-read_u32.is c.read_u32.ensures)
-    (told says_u32 c.in-Got-read_u32-2.is c.read_u32-2.ensures)
-    (then-fails _ (told says_count c.in-Refused-read_root_count.is c.read_root_count.ensures))
+pub returns-in_err-root_count : goal.returns-in_err-root_count
+unfolding tree_head_field
+returns-in_err-root_count c = handed-on _ _ c.from_residual-in_err-root_count.ensures.1 (search (read, one-buffer _ _ c.in_ok-buffers.ensures c.if-buffers-ne1.false, c.in_ok-background.ensures, c.in_ok-tile_count.ensures, no-root-count _ c.args.limit _ c.in_err-root_count.ensures) depth 8)
 
-pub returns-in-Past : goal.returns-in-Past
-returns-in-Past c =
-    behind _ _ _ (told says_count c.in-Got.is c.read_buffer_count.ensures) (told says_u32 c.in-Got-read_u32.is c.read_u32.ensures)
-    (told says_u32 c.in-Got-read_u32-2.is c.read_u32-2.ensures)
-    (then-got _ (told says_count c.in-Got-read_root_count.is c.read_root_count.ensures) (then-fails _ (told says_tiles c.in-Past.is c.read_tiles.ensures)))
+pub returns-then-limit-root_count : goal.returns-then-limit-root_count
+unfolding tree_head_field
+returns-then-limit-root_count c = search (read, one-buffer _ _ c.in_ok-buffers.ensures c.if-buffers-ne1.false, c.in_ok-background.ensures, c.in_ok-tile_count.ensures, many-roots _ _ _ c.in_ok-root_count.ensures c.if-limit-root_count.true) depth 8
 
-pub returns-in-Got-read_tiles : goal.returns-in-Got-read_tiles
-returns-in-Got-read_tiles c =
-    behind _ _ _ (told says_count c.in-Got.is c.read_buffer_count.ensures) (told says_u32 c.in-Got-read_u32.is c.read_u32.ensures)
-    (told says_u32 c.in-Got-read_u32-2.is c.read_u32-2.ensures)
-    (then-got _ (told says_count c.in-Got-read_root_count.is c.read_root_count.ensures)
-    (then-got _ (told says_tiles c.in-Got-read_tiles.is c.read_tiles.ensures) refl))
+pub returns-in_err-roots_pos : goal.returns-in_err-roots_pos
+unfolding tree_head_field
+returns-in_err-roots_pos c = handed-on _ _ c.from_residual-in_err-roots_pos.ensures.1 (search (read, one-buffer _ _ c.in_ok-buffers.ensures c.if-buffers-ne1.false, c.in_ok-background.ensures, c.in_ok-tile_count.ensures, few-roots _ _ _ c.in_ok-root_count.ensures c.if-limit-root_count.false, c.in_err-roots_pos.ensures) depth 9)
+
+pub returns : goal.returns
+unfolding tree_head_field
+returns c = search (read, one-buffer _ _ c.in_ok-buffers.ensures c.if-buffers-ne1.false, c.in_ok-background.ensures, c.in_ok-tile_count.ensures, few-roots _ _ _ c.in_ok-root_count.ensures c.if-limit-root_count.false, c.in_ok-roots_pos.ensures) depth 10
