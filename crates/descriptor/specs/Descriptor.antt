@@ -1,6 +1,5 @@
 -- Section 2: a descriptor, with checks 7 and 9 of section 8 in their places.
-use Rattle.std.specs.Prelude.{ℕ, List, Bool, leb, ltb, length}
-use Rattle.std.proofs.Math.Option.{Option, none, some}
+use Rattle.std.specs.Prelude.{ℕ, List, Bool, leb, ltb, length, Option, None, Some}
 use Rattle.fields.specs.Parse.{Parse, got, then, when, check}
 use Rattle.fields.specs.Fields.{u32_field, u64_field, string_field, bytes_of, same_bytes, ascii}
 use Rattle.metadata.specs.Metadata.{lookup}
@@ -10,8 +9,6 @@ use Rattle.metadata.specs.declared.MetadataValue.TheVariants as Value
 use Rattle.header.specs.declared.ArchiveHeader.{ArchiveHeader}
 use Rattle.descriptor.specs.declared.GridNames.{GridNames}
 use Rattle.descriptor.specs.declared.GridPositions.{GridPositions}
-use Rattle.descriptor.specs.declared.HalfEntry.{HalfEntry}
-use Rattle.descriptor.specs.declared.HalfEntry.TheVariants as Half
 use Rattle.descriptor.specs.declared.TreeKind.{TreeKind}
 use Rattle.descriptor.specs.declared.TreeKind.TheVariants as Tree
 use Rattle.descriptor.specs.declared.GridDescriptor.{GridDescriptor}
@@ -49,18 +46,18 @@ flags_field s version packed at =
     (got f p))
 
 -- section 5: what a grid's entry `is_saved_as_half_float` says: a bool, or nothing where there is none or it is of another kind
-unfoldable pub half_by : MetadataValue → HalfEntry
-half_by (Value.String w) = Half.Nothing
-half_by (Value.Bool b) = Half.Says b
-half_by (Value.I32 v) = Half.Nothing
-half_by (Value.I64 v) = Half.Nothing
-half_by (Value.Float v) = Half.Nothing
-half_by (Value.Vec3i v) = Half.Nothing
-half_by (Value.Unknown k w) = Half.Nothing
+unfoldable pub half_by : MetadataValue → Option Bool
+half_by (Value.String w) = None
+half_by (Value.Bool b) = Some b
+half_by (Value.I32 v) = None
+half_by (Value.I64 v) = None
+half_by (Value.Float v) = None
+half_by (Value.Vec3i v) = None
+half_by (Value.Unknown k w) = None
 
-unfoldable pub half_entry : Option Entry → HalfEntry
-half_entry none = Half.Nothing
-half_entry (some e) = half_by e.value
+unfoldable pub half_entry : Option Entry → Option Bool
+half_entry None = None
+half_entry (Some e) = half_by e.value
 
 -- Check 12, and section 5 with N4, ask which tree a type's name stands for: one of floats, one of floats with the ending that tells of halves, or
 -- another.

@@ -1,3 +1,1 @@
 pub mod Descriptor
-pub mod Says
-pub mod Inner

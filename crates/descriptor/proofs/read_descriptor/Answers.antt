@@ -1,28 +1,24 @@
 -- Names, positions, flags and metadata, one after the other; each way out is the definition up to the field that fails.
-use Rattle.metadata.specs.Inner.{says_metadata}
-use Rattle.fields.proofs.Steps.{then_by, steps}
+use Rattle.fields.proofs.Steps.{read, handed-on}
 use Rattle.descriptor.specs.Descriptor.{descriptor}
-use Rattle.header.specs.Inner.{says_number}
-use Rattle.descriptor.specs.Says.{says_names}
-use Rattle.descriptor.specs.Inner.{says_positions}
 use Rattle.descriptor.proofs.read_descriptor.Goals as goal
 
-pub returns-in-Past : goal.returns-in-Past
+pub returns-in_err-names : goal.returns-in_err-names
 unfolding descriptor
-returns-in-Past c = search (steps, then_by says_names)
+returns-in_err-names c = handed-on _ _ c.from_residual.ensures.1 (search (read, c.in_err-names.ensures))
 
-pub returns-in-Refused : goal.returns-in-Refused
+pub returns-in_err-places : goal.returns-in_err-places
 unfolding descriptor
-returns-in-Refused c = search (steps, then_by says_names, then_by says_positions)
+returns-in_err-places c = handed-on _ _ c.from_residual-in_err-places.ensures.1 (search (read, c.in_ok-names.ensures, c.in_err-places.ensures))
 
-pub returns-in-Refused-read_flags : goal.returns-in-Refused-read_flags
+pub returns-in_err-flags : goal.returns-in_err-flags
 unfolding descriptor
-returns-in-Refused-read_flags c = search (steps, then_by says_names, then_by says_positions, then_by says_number) depth 7
+returns-in_err-flags c = handed-on _ _ c.from_residual-in_err-flags.ensures.1 (search (read, c.in_ok-names.ensures, c.in_ok-places.ensures, c.in_err-flags.ensures) depth 7)
 
-pub returns-in-Past-read_half : goal.returns-in-Past-read_half
+pub returns-in_err-found : goal.returns-in_err-found
 unfolding descriptor
-returns-in-Past-read_half c = search (steps, then_by says_names, then_by says_positions, then_by says_number, then_by says_metadata) depth 9
+returns-in_err-found c = handed-on _ _ c.from_residual-in_err-found.ensures.1 (search (read, c.in_ok-names.ensures, c.in_ok-places.ensures, c.in_ok-flags.ensures, c.in_err-found.ensures) depth 9)
 
-pub returns-in-Got-read_half : goal.returns-in-Got-read_half
+pub returns : goal.returns
 unfolding descriptor
-returns-in-Got-read_half c = rw (c.half_of-half.ensures, c.tree_kind-kind.ensures, c.bytes_of.ensures) (search (steps, then_by says_names, then_by says_positions, then_by says_number, then_by says_metadata) depth 9)
+returns c = rw (c.half_of.ensures, c.tree_kind.ensures, c.bytes_of.ensures) (search (read, c.in_ok-names.ensures, c.in_ok-places.ensures, c.in_ok-flags.ensures, c.in_ok-found.ensures) depth 9)

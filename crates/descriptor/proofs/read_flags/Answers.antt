@@ -1,25 +1,29 @@
 -- Before version 222 nothing is read; from 222 on the flags are read, and then comes check 7.
-use Rattle.fields.specs.Says.{says_u32}
-use Rattle.fields.proofs.Steps.{then_by, steps}
+use mathlib.Core.Path.{◌≡◌, refl, ap, ◌∙◌}
+use mathlib.Core.Bool.{Bool, true, false}
+use mir.Val.{bool_byte}
+use Rattle.fields.specs.Parse.{got, when}
+use Rattle.fields.proofs.Steps.{steps, handed-on, when-lt}
 use Rattle.descriptor.specs.Descriptor.{flags_field}
 use Rattle.descriptor.proofs.read_flags.Goals as goal
 
-pub returns-then-packed : goal.returns-then-packed
-unfolding flags_field
-returns-then-packed c = search steps
+as-flag : (b : Bool) → bool_byte b ≡ when b 1 0
+unfolding when
+as-flag true = refl
+as-flag false = refl
 
 pub returns-then-version-lt222 : goal.returns-then-version-lt222
 unfolding flags_field
-returns-then-version-lt222 c = search steps
+returns-then-version-lt222 c = when-lt _ _ _ c.if-version-lt222.true (ap (λ f. got f c.args.at) (c.from.ensures ∙ as-flag _))
+
+pub returns-in_err-f : goal.returns-in_err-f
+unfolding flags_field
+returns-in_err-f c = handed-on _ _ c.from_residual.ensures.1 (search (steps, c.in_err-f.ensures))
 
 pub returns-then-f-gt7 : goal.returns-then-f-gt7
 unfolding flags_field
-returns-then-f-gt7 c = search (steps, then_by says_u32)
+returns-then-f-gt7 c = search (steps, c.in_ok-f.ensures)
 
-pub returns-in-Past : goal.returns-in-Past
+pub returns : goal.returns
 unfolding flags_field
-returns-in-Past c = search (steps, then_by says_u32)
-
-pub returns-else-f-gt7 : goal.returns-else-f-gt7
-unfolding flags_field
-returns-else-f-gt7 c = search (steps, then_by says_u32)
+returns c = search (steps, c.in_ok-f.ensures)

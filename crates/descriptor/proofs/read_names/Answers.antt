@@ -1,21 +1,20 @@
 -- Three strings, one after the other; the first that is not whole ends the reading.
-use Rattle.fields.specs.Says.{says_span}
-use Rattle.fields.proofs.Steps.{then_by, steps}
+use Rattle.fields.proofs.Steps.{read, handed-on}
 use Rattle.descriptor.specs.Descriptor.{names_field}
 use Rattle.descriptor.proofs.read_names.Goals as goal
 
-pub returns-in-Past : goal.returns-in-Past
+pub returns-in_err-name : goal.returns-in_err-name
 unfolding names_field
-returns-in-Past c = search (steps, then_by says_span)
+returns-in_err-name c = handed-on _ _ c.from_residual.ensures.1 (search (read, c.in_err-name.ensures))
 
-pub returns-in-Past-read_name : goal.returns-in-Past-read_name
+pub returns-in_err-grid_type : goal.returns-in_err-grid_type
 unfolding names_field
-returns-in-Past-read_name c = search (steps, then_by says_span)
+returns-in_err-grid_type c = handed-on _ _ c.from_residual-in_err-grid_type.ensures.1 (search (read, c.in_ok-name.ensures, c.in_err-grid_type.ensures))
 
-pub returns-in-Past-read_name-2 : goal.returns-in-Past-read_name-2
+pub returns-in_err-instance_parent : goal.returns-in_err-instance_parent
 unfolding names_field
-returns-in-Past-read_name-2 c = search (steps, then_by says_span) depth 7
+returns-in_err-instance_parent c = handed-on _ _ c.from_residual-in_err-instance_parent.ensures.1 (search (read, c.in_ok-name.ensures, c.in_ok-grid_type.ensures, c.in_err-instance_parent.ensures) depth 7)
 
-pub returns-in-Got-read_name-2 : goal.returns-in-Got-read_name-2
+pub returns : goal.returns
 unfolding names_field
-returns-in-Got-read_name-2 c = search (steps, then_by says_span) depth 7
+returns c = search (read, c.in_ok-name.ensures, c.in_ok-grid_type.ensures, c.in_ok-instance_parent.ensures) depth 7

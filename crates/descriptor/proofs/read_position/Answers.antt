@@ -1,17 +1,16 @@
 -- The number is read, and then check 9 compares it with the file's length.
-use Rattle.fields.specs.Inner.{says_u64}
-use Rattle.fields.proofs.Steps.{then_by, steps}
+use Rattle.fields.proofs.Steps.{read, steps, handed-on}
 use Rattle.descriptor.specs.Descriptor.{position_field}
 use Rattle.descriptor.proofs.read_position.Goals as goal
 
+pub returns-in_err-v : goal.returns-in_err-v
+unfolding position_field
+returns-in_err-v c = handed-on _ _ c.from_residual.ensures.1 (search (read, c.in_err-v.ensures))
+
 pub returns-then-n-v : goal.returns-then-n-v
 unfolding position_field
-returns-then-n-v c = search (steps, then_by says_u64)
+returns-then-n-v c = search (steps, c.in_ok-v.ensures)
 
-pub returns-in-Past : goal.returns-in-Past
+pub returns : goal.returns
 unfolding position_field
-returns-in-Past c = search (steps, then_by says_u64)
-
-pub returns-else-n-v : goal.returns-else-n-v
-unfolding position_field
-returns-else-n-v c = search (steps, then_by says_u64)
+returns c = search (steps, c.in_ok-v.ensures)

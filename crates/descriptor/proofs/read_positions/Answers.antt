@@ -1,21 +1,20 @@
 -- Three positions, one after the other; the first that is refused ends the reading.
-use Rattle.fields.proofs.Steps.{then_by, steps}
+use Rattle.fields.proofs.Steps.{read, handed-on}
 use Rattle.descriptor.specs.Descriptor.{positions_field}
-use Rattle.descriptor.specs.Inner.{says_position}
 use Rattle.descriptor.proofs.read_positions.Goals as goal
 
-pub returns-in-Refused : goal.returns-in-Refused
+pub returns-in_err-grid_pos : goal.returns-in_err-grid_pos
 unfolding positions_field
-returns-in-Refused c = search (steps, then_by says_position)
+returns-in_err-grid_pos c = handed-on _ _ c.from_residual.ensures.1 (search (read, c.in_err-grid_pos.ensures))
 
-pub returns-in-Refused-read_position : goal.returns-in-Refused-read_position
+pub returns-in_err-block_pos : goal.returns-in_err-block_pos
 unfolding positions_field
-returns-in-Refused-read_position c = search (steps, then_by says_position)
+returns-in_err-block_pos c = handed-on _ _ c.from_residual-in_err-block_pos.ensures.1 (search (read, c.in_ok-grid_pos.ensures, c.in_err-block_pos.ensures))
 
-pub returns-in-Refused-read_position-2 : goal.returns-in-Refused-read_position-2
+pub returns-in_err-end_pos : goal.returns-in_err-end_pos
 unfolding positions_field
-returns-in-Refused-read_position-2 c = search (steps, then_by says_position) depth 7
+returns-in_err-end_pos c = handed-on _ _ c.from_residual-in_err-end_pos.ensures.1 (search (read, c.in_ok-grid_pos.ensures, c.in_ok-block_pos.ensures, c.in_err-end_pos.ensures) depth 7)
 
-pub returns-in-Got-read_position-2 : goal.returns-in-Got-read_position-2
+pub returns : goal.returns
 unfolding positions_field
-returns-in-Got-read_position-2 c = search (steps, then_by says_position) depth 7
+returns c = search (read, c.in_ok-grid_pos.ensures, c.in_ok-block_pos.ensures, c.in_ok-end_pos.ensures) depth 7
