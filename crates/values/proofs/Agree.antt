@@ -15,8 +15,7 @@ use Rattle.masks.proofs.Laws.{count-strict}
 use Rattle.masks.proofs.Agree.{bit-same}
 use Rattle.forms.specs.declared.Coding.{Coding}
 use Rattle.forms.specs.declared.Inactives.{Inactives}
-use Rattle.forms.specs.declared.Selection.{Selection}
-use Rattle.forms.specs.declared.Selection.TheVariants.{At, Nothing}
+use Rattle.std.proofs.Common.{Option, Some, None}
 use Rattle.forms.proofs.Agree.{SameSelection}
 use Rattle.runs.specs.Runs.{is_stored, count_of}
 use Rattle.runs.specs.declared.Values.{Values}
@@ -37,10 +36,10 @@ stored-value-same {s} {t} {at} width w h = go (eqb width 2) refl
         let k : width ≡ 2 → ⊥ = eqb-false _ _ e in
         u32-same at h (omega arith) (omega arith)
 
-selected-same : (s t : List ℕ) (n : ℕ) (x : Selection) (p : ℕ) → SameSelection s t n x → p < 8 * n → is_selected s x p ≡ is_selected t x p
+selected-same : (s t : List ℕ) (n : ℕ) (x : Option ℕ) (p : ℕ) → SameSelection s t n x → p < 8 * n → is_selected s x p ≡ is_selected t x p
 unfolding is_selected
-selected-same s t n (At at) p h k = bit-same n p h k
-selected-same s t n Nothing p h k = refl
+selected-same s t n (Some at) p h k = bit-same n p h k
+selected-same s t n None p h k = refl
 
 inactive-same : (s t : List ℕ) (n : ℕ) (v : Inactives) (p : ℕ) → SameSelection s t n v.selection → p < 8 * n → inactive_value s v p ≡ inactive_value t v p
 unfolding inactive_value

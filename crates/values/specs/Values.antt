@@ -1,21 +1,19 @@
 -- Section 5: the value of each place of a node, and the values of a leaf.
 -- A node is given by its child mask's position `child` and its value mask's position `value`. A leaf has no child mask, and none of its values
 -- depends on `child`.
-use Rattle.std.specs.Prelude.{ℕ, zero, suc, ◌+◌, ◌*◌, List, [], ◌∷◌, Bool, false}
+use Rattle.std.specs.Prelude.{ℕ, zero, suc, ◌+◌, ◌*◌, List, [], ◌∷◌, Bool, false, Option, Some, None}
 use Rattle.fields.specs.Parse.{when}
 use Rattle.masks.specs.Masks.{mask_bit}
 use Rattle.half.specs.Half.{stored_value}
 use Rattle.forms.specs.declared.Coding.{Coding}
-use Rattle.forms.specs.declared.Selection.{Selection}
-use Rattle.forms.specs.declared.Selection.TheVariants.{At, Nothing}
 use Rattle.forms.specs.declared.Inactives.{Inactives}
 use Rattle.runs.specs.Runs.{is_stored, number_of}
 use Rattle.runs.specs.declared.Values.{Values}
 
 -- the selection bit of place p
-unfoldable pub is_selected : List ℕ → Selection → ℕ → Bool
-is_selected s (At at) p = mask_bit s at p
-is_selected s Nothing p = false
+unfoldable pub is_selected : List ℕ → Option ℕ → ℕ → Bool
+is_selected s (Some at) p = mask_bit s at p
+is_selected s None p = false
 
 -- what an inactive place holds: the second inactive value where it is selected, else the first
 unfoldable pub inactive_value : List ℕ → Inactives → ℕ → ℕ

@@ -12,7 +12,7 @@ ghost use Rattle.values.specs.Values.{inactive_value, place_value};
 ghost use Rattle.values.specs.Inner.{InRun};
 
 use coordinates::Index;
-use forms::{Coding, Inactives, Selection};
+use forms::{Coding, Inactives};
 use runs::Values;
 
 // What an inactive place holds.
@@ -20,11 +20,11 @@ fn inactive_value(s: &[u8], n: usize, v: Inactives, p: Index) -> u32
     requires { SelectionHeld s.now n v.selection × (p.0 < 8 * n) }
     ensures { result ≡ inactive_value s.now v p.0 }
 {
-    let selection = v.selection;
-    if let Selection::At(at) = selection {
-        if masks::bit(s, at, n, p) {
-            return v.second;
-        }
+    let Some(at) = v.selection else {
+        return v.first;
+    };
+    if masks::bit(s, at, n, p) {
+        return v.second;
     }
     v.first
 }
@@ -54,11 +54,9 @@ pub fn place_value(
     requires { Held s.now c n child value v × (p.0 < 8 * n) }
     ensures { result ≡ place_value s.now c child value v p.0 }
 {
-    let stored = v.stored;
-    if runs::is_stored(s, stored, n, child, value, p) {
-        let k = runs::number_of(s, stored, n, child, value, p);
+    if runs::is_stored(s, v.stored, n, child, value, p) {
+        let k = runs::number_of(s, v.stored, n, child, value, p);
         return stored_value(s, c, v.start, k);
     }
-    let inactives = v.inactives;
-    inactive_value(s, n, inactives, p)
+    inactive_value(s, n, v.inactives, p)
 }
