@@ -11,13 +11,13 @@ fn widen_subnormal(h: u16) -> u32
     requires { exponent h ≡ 0 }
     ensures { result ≡ widened h }
 {
-    let p = h as u32;
+    let p = u32::from(h);
     let sign = p / 0x8000 * 0x8000_0000;
     let t = p % 0x0400;
     if t == 0 {
         return sign;
     }
-    let j = 31 - u32::leading_zeros(t);
+    let j = 31 - t.leading_zeros();
     sign + (j + 103) * 0x0080_0000 + (t << (23 - j)) % 0x0080_0000
 }
 
@@ -26,7 +26,7 @@ fn widen_special(h: u16) -> u32
     requires { exponent h ≡ 31 }
     ensures { result ≡ widened h }
 {
-    let p = h as u32;
+    let p = u32::from(h);
     let sign = p / 0x8000 * 0x8000_0000;
     let t = p % 0x0400;
     if t == 0 {
@@ -43,10 +43,7 @@ fn is_normal(h: u16) -> bool
     ensures { result ≡ is_normal h }
 {
     let rest = h % 0x8000;
-    if rest < 0x0400 {
-        return false;
-    }
-    rest < 0x7c00
+    0x0400 <= rest && rest < 0x7c00
 }
 
 // Such a half, which without its sign is so much above 0x0400, the smallest one. That is 0x3880_0000 in 32 bits, and a step up there is 0x2000.
@@ -54,7 +51,7 @@ fn widen_above(h: u16, above: u32) -> u32
     requires { (is_normal h ≡ true) × (above ≡ h % 32768 - 1024) }
     ensures { result ≡ widened h }
 {
-    let sign = h as u32 / 0x8000 * 0x8000_0000;
+    let sign = u32::from(h) / 0x8000 * 0x8000_0000;
     sign + 0x3880_0000 + above * 0x2000
 }
 
@@ -63,14 +60,14 @@ pub fn widen_normal(h: u16) -> u32
     requires { is_normal h ≡ true }
     ensures { result ≡ widened h }
 {
-    widen_above(h, h as u32 % 0x8000 - 0x0400)
+    widen_above(h, u32::from(h) % 0x8000 - 0x0400)
 }
 
 // Any half. The difference from 0x0400 modulo 0x8000, so without the sign, is below 0x7800 for the normal ones alone: one comparison finds them.
 pub fn widen(h: u16) -> u32
     ensures { result ≡ widened h }
 {
-    let above = (h as u32 + 0x7c00) % 0x8000;
+    let above = (u32::from(h) + 0x7c00) % 0x8000;
     if above < 0x7800 {
         return widen_above(h, above);
     }
@@ -86,7 +83,7 @@ pub fn value_at(s: &[u8], at: usize, width: usize) -> u32
     ensures { result ≡ stored_value s.now width at }
 {
     if width == 2 {
-        return widen(fields::u16_at(s, at) as u16);
+        return widen(fields::u16_at(s, at));
     }
     fields::u32_at(s, at)
 }
@@ -97,12 +94,10 @@ pub fn are_normal(s: &[u8], at: usize) -> bool
     ensures { result ≡ are_normal s.now at 64 }
 {
     let mut all = true;
-    let mut k: usize = 0;
-    while k < 64 {
-        if !is_normal(fields::u16_at(s, at + k * 2) as u16) {
+    for k in 0..64 {
+        if !is_normal(fields::u16_at(s, at + k * 2)) {
             all = false;
         }
-        k = k + 1;
     }
     all
 }
