@@ -1,58 +1,53 @@
 -- Each way out is the fields and checks up to it, as the calls found them: the two masks, check 18, the values.
-use Rattle.fields.specs.Parse.{then, check}
-use Rattle.fields.specs.Says.{says_span}
-use Rattle.fields.proofs.Laws.{told}
-use Rattle.fields.proofs.Steps.{steps, then_by}
+use mathlib.Core.Bool.{not}
+use mathlib.Core.Path.{refl, ap}
+use Rattle.fields.proofs.Laws.{then-got, then-fails}
+use Rattle.fields.proofs.Steps.{read, handed-on, check-yes, check-no}
 use Rattle.nodes.specs.Nodes.{node_field}
 use Rattle.nodes.proofs.Laws.{whole-mask}
 use Rattle.nodes.proofs.read_node_header.Goals as goal
 
-pub returns-in_default : goal.returns-in_default
-unfolding node_field then check
-returns-in_default c = search (steps, then_by says_span)
+pub returns-in_err-child_mask : goal.returns-in_err-child_mask
+unfolding node_field
+returns-in_err-child_mask c = handed-on _ _ c.from_residual.ensures.1 (search (read, c.in_err-child_mask.ensures))
 
-pub returns-in_default-read_bytes : goal.returns-in_default-read_bytes
-unfolding node_field then check
-returns-in_default-read_bytes c = search (steps, then_by says_span)
+pub returns-in_err-value_mask : goal.returns-in_err-value_mask
+unfolding node_field
+returns-in_err-value_mask c = handed-on _ _ c.from_residual-in_err-value_mask.ensures.1 (search (read, c.in_ok-child_mask.ensures, c.in_err-value_mask.ensures))
 
 pub masks_overlap-requires : goal.masks_overlap-requires
 masks_overlap-requires c = (
-  whole-mask _ _ _ c.requires.0 c.requires.1 (told says_span c.in-Got.is c.read_bytes.ensures),
-  whole-mask _ _ _ c.requires.0 c.requires.1 (told says_span c.in-Got-read_bytes.is c.read_bytes-2.ensures),
+  whole-mask _ _ _ c.requires.0 c.requires.1 c.in_ok-child_mask.ensures,
+  whole-mask _ _ _ c.requires.0 c.requires.1 c.in_ok-value_mask.ensures,
 )
 
 pub returns-then-masks_overlap : goal.returns-then-masks_overlap
-unfolding node_field then check
+unfolding node_field
 returns-then-masks_overlap c =
-    rw (← told says_span c.in-Got.is c.read_bytes.ensures, ← told says_span c.in-Got-read_bytes.is c.read_bytes-2.ensures, ← c.masks_overlap.ensures, c.if-masks_overlap.true)
+    then-got _ c.in_ok-child_mask.ensures
+    (then-got _ c.in_ok-value_mask.ensures
+    (check-no _ (ap not c.masks_overlap.ensures) (ap not c.if-masks_overlap.true)))
 
 pub read_values-requires : goal.read_values-requires
 read_values-requires c = (
-  whole-mask _ _ _ c.requires.0 c.requires.1 (told says_span c.in-Got.is c.read_bytes.ensures),
-  whole-mask _ _ _ c.requires.0 c.requires.1 (told says_span c.in-Got-read_bytes.is c.read_bytes-2.ensures),
+  whole-mask _ _ _ c.requires.0 c.requires.1 c.in_ok-child_mask.ensures,
+  whole-mask _ _ _ c.requires.0 c.requires.1 c.in_ok-value_mask.ensures,
   c.requires.2,
 )
 
-pub returns-in-Got-read_values : goal.returns-in-Got-read_values
-unfolding node_field then check
-returns-in-Got-read_values c =
-    rw (
-      ← told says_span c.in-Got.is c.read_bytes.ensures,
-      ← told says_span c.in-Got-read_bytes.is c.read_bytes-2.ensures,
-      ← c.masks_overlap.ensures,
-      c.if-masks_overlap.false,
-      ← c.read_values.ensures,
-      c.in-Got-read_values.is,
-    )
+pub returns-in_err-values : goal.returns-in_err-values
+unfolding node_field
+returns-in_err-values c =
+    handed-on _ _ c.from_residual-in_err-values.ensures.1
+    (then-got _ c.in_ok-child_mask.ensures
+    (then-got _ c.in_ok-value_mask.ensures
+    (check-yes _ (ap not c.masks_overlap.ensures) (ap not c.if-masks_overlap.false)
+    (then-fails _ c.in_err-values.ensures))))
 
-pub returns-in-Refused : goal.returns-in-Refused
-unfolding node_field then check
-returns-in-Refused c =
-    rw (
-      ← told says_span c.in-Got.is c.read_bytes.ensures,
-      ← told says_span c.in-Got-read_bytes.is c.read_bytes-2.ensures,
-      ← c.masks_overlap.ensures,
-      c.if-masks_overlap.false,
-      ← c.read_values.ensures,
-      c.in-Refused.is,
-    )
+pub returns : goal.returns
+unfolding node_field
+returns c =
+    then-got _ c.in_ok-child_mask.ensures
+    (then-got _ c.in_ok-value_mask.ensures
+    (check-yes _ (ap not c.masks_overlap.ensures) (ap not c.if-masks_overlap.false)
+    (then-got _ c.in_ok-values.ensures refl)))
