@@ -1,7 +1,7 @@
 -- What opening a file reads: two files that are the same there give the same.
 use mathlib.Core.Path.{◌≡◌, refl, sym, ap, ap₂, ◌∙◌}
 use mathlib.Core.List.{List, [], ◌∷◌}
-use mathlib.Core.Option.{Option, none, some}
+use Rattle.std.proofs.Common.{Option, None, Some}
 use mathlib.Core.Bool.{Bool, true, false, not, ◌||◌}
 use Prim.Native.Nat.{ℕ, zero, suc}
 use native.Mathlib.Omega.{arith}
@@ -18,7 +18,8 @@ use Rattle.header.proofs.Agree.{header-tells}
 use Rattle.descriptor.specs.declared.GridDescriptor.{GridDescriptor}
 use Rattle.descriptor.proofs.Agree.{SameDescriptor, SameNames, descriptor-again}
 use Rattle.fields.specs.Answer.{gives, answer}
-use Rattle.archive.specs.Archive.{repeated, descriptors, file, File, is_asked, AskedFile, file_asked}
+use Rattle.archive.specs.Archive.{repeated, descriptors, file, File, is_asked, file_asked}
+use Rattle.archive.specs.declared.AskedFile.{AskedFile}
 use Rattle.archive.specs.declared.Asked.{Asked}
 use Rattle.archive.specs.declared.Asked.TheVariants as A
 use Rattle.fields.proofs.Answers.{with-gives, with-back, gives_same, answer-got, answer_back}
@@ -63,10 +64,10 @@ asked-same s t (A.ByNumber n) name i d h = refl
 
 -- P of what there is
 abbrev pub Maybe : {A : Type 0} → (A → Type 0) → Option A → Type 0
-Maybe P none = Unit {0}
-Maybe P (some a) = P a
+Maybe P None = Unit {0}
+Maybe P (Some a) = P a
 
-when-maybe : {A : Type 0} (P : A → Type 0) (b : Bool) (a : A) (best : Option A) → P a → Maybe P best → Maybe P (when b (some a) best)
+when-maybe : {A : Type 0} (P : A → Type 0) (b : Bool) (a : A) (best : Option A) → P a → Maybe P best → Maybe P (when b (Some a) best)
 unfolding when
 when-maybe P true a best h k = h
 when-maybe P false a best h k = k
@@ -88,7 +89,7 @@ opened-again s t asked name u g =
     let y = with-back (answer (file s)) _ g in
     let z = answer_back (file s) y.1 in
     let w = file-again s t y.0 z.0 z.1 (u y.0 z.0 z.1) in
-    let a = latest-same (SameNames s t) _ _ (asked-same s t asked name) 0 y.0.grids none w.1 in (
+    let a = latest-same (SameNames s t) _ _ (asked-same s t asked name) 0 y.0.grids None w.1 in (
       with-gives _ (answer-got w.0) (y.2 ∙ ap (λ (d : Option GridDescriptor). gives (record { header = y.0.header; grid = d })) a),
-      rw (ap (λ (o : AskedFile). o.grid) (gives_same y.2)) (latest-maybe (SameNames s t) _ 0 y.0.grids none w.1 tt),
+      rw (ap (λ (o : AskedFile). o.grid) (gives_same y.2)) (latest-maybe (SameNames s t) _ 0 y.0.grids None w.1 tt),
     )

@@ -1,20 +1,23 @@
 -- Laws of the definitions, by which the functions' proofs go.
-use mathlib.Core.Path.{◌≡◌, refl, ap, ◌∙◌}
+use mathlib.Core.Path.{◌≡◌, refl, ◌∙◌}
 use mathlib.Core.List.{List, [], ◌∷◌, ◌++◌}
-use mathlib.Core.Option.{Option, none, some}
+use Rattle.std.proofs.Common.{Option, None, Some, ok_or}
+use Rattle.fields.specs.Says.{says_answer}
+use Rattle.fields.specs.declared.ParseError.TheVariants.{NotFound}
 use mathlib.Core.Bool.{Bool, true, false, not}
 use Prim.Native.Nat.{ℕ, suc, ◌+◌, ◌-◌, ◌≤◌, ◌<◌}
 use native.Mathlib.Omega.{arith}
 use native.Mathlib.Numerals.{add-one}
-use lib.ListN.{length, get_or, take, set, length-take, drop_of_length-le}
-use lib.Seq.{slice, drop-cons, get_or-take, take-suc-set}
+use lib.ListN.{length, get_or, take, drop, set, drop_of_length-le}
+use lib.Seq.{drop-cons, take-suc-set}
 use Rattle.fields.specs.Parse.{Parse, got, fails, then, when, check}
 use Rattle.fields.specs.Fields.{bytes_of, same_bytes}
 use Rattle.fields.specs.declared.Span.{Span}
 use Rattle.fields.proofs.Laws.{then-got, then-fails, check-passes, check-fails, then-then, check-then}
 use Rattle.metadata.specs.Metadata.{latest}
 use Rattle.fields.specs.Answer.{Answer, gives, refuses, answer, with}
-use Rattle.archive.specs.Archive.{present, repeated, descriptors, File, file, open_file, is_asked, AskedFile, asked_of, file_asked}
+use Rattle.archive.specs.Archive.{present, repeated, descriptors, File, file, open_file, is_asked, asked_of, file_asked}
+use Rattle.archive.specs.declared.AskedFile.{AskedFile}
 use Rattle.header.specs.Header.{header}
 use Rattle.archive.specs.Inner.{next_field, grids_field}
 use Rattle.header.specs.declared.ArchiveHeader.{ArchiveHeader}
@@ -26,36 +29,27 @@ use Rattle.descriptor.specs.declared.GridDescriptor.{GridDescriptor}
 pub asked_is : {asked asked' : Asked} (s name : List ℕ) (i : ℕ) (d : GridDescriptor) {x : Bool} → asked ≡ asked' → x ≡ is_asked s asked' name i d → x ≡ is_asked s asked name i d
 asked_is s name i d e h = rw e h
 
-pub with-present : {F A : Type 0} (says : F → Option A) {B : Type 0} (f : A → Answer B) {x : Answer B} {r v : F} → r ≡ v → x ≡ with (present (says v)) f → x ≡ with (present (says r)) f
-with-present says f e k = rw e k
+-- check 11 refuses what is not there
+pub present-answer : {A : Type 0} (o : Option A) → says_answer (ok_or o NotFound) ≡ present o
+unfolding present
+present-answer (Some a) = refl
+present-answer None = refl
 
-pub present-by : {F A : Type 0} (says : F → Option A) {x : Answer A} {r v : F} → r ≡ v → x ≡ present (says v) → x ≡ present (says r)
-present-by says e k = rw e k
-
--- a name among those from the k-th to the n-th of 64: the k-th, whose bytes are a, is it, or is not, or none is left
-module _ (s name : List ℕ) (ws : List Span) (k n : ℕ) where
-  from-here : (w : Span) → k < n → n < 64 → length ws ≡ 64 → slice k n ws ≡ get_or ws k w ∷ slice (suc k) n ws
-  from-here w h l j =
-      let e : k < length (take n ws) = rw (length-take n ws, j) (omega arith) in
-      drop-cons (take n ws) k w e ∙ ap (λ (a : Span). a ∷ slice (suc k) n ws) (get_or-take n ws k w h)
-
-  pub repeated-here :
-      (w : Span) {a : List ℕ} {t : Bool} → k < n → n < 64 → length ws ≡ 64 → t ≡ same_bytes a name → a ≡ bytes_of s (get_or ws k w) → t ≡ true →
-      true ≡ repeated s name (slice k n ws)
+-- a name among those from the k-th on: the k-th, whose bytes are a, is it, or is not, or none is left
+module _ (s name : List ℕ) (ws : List Span) (k : ℕ) where
+  pub repeated-here : (w : Span) {a : List ℕ} {t : Bool} → k < length ws → t ≡ same_bytes a name → a ≡ bytes_of s (get_or ws k w) → t ≡ true → true ≡ repeated s name (drop k ws)
   unfolding repeated
-  repeated-here w h l j e y x = rw (from-here w h l j, ← y, ← e, x)
+  repeated-here w h e y x = rw (drop-cons ws k w h, ← y, ← e, x)
 
   pub repeated-later :
-      (w : Span) {a : List ℕ} {t : Bool} → k < n → n < 64 → length ws ≡ 64 → t ≡ same_bytes a name → a ≡ bytes_of s (get_or ws k w) → t ≡ false →
-      repeated s name (slice (k + 1) n ws) ≡ repeated s name (slice k n ws)
+      (w : Span) {a : List ℕ} {t : Bool} → k < length ws → t ≡ same_bytes a name → a ≡ bytes_of s (get_or ws k w) → t ≡ false →
+      repeated s name (drop (k + 1) ws) ≡ repeated s name (drop k ws)
   unfolding repeated
-  repeated-later w h l j e y x = rw (from-here w h l j, add-one k, ← y, ← e, x)
+  repeated-later w h e y x = rw (add-one k, drop-cons ws k w h, ← y, ← e, x)
 
-  pub repeated-end : n ≤ k → false ≡ repeated s name (slice k n ws)
+  pub repeated-end : length ws ≤ k → false ≡ repeated s name (drop k ws)
   unfolding repeated
-  repeated-end h =
-      let l : length (take n ws) ≤ k = rw (length-take n ws) (omega arith) in
-      rw (drop_of_length-le (take n ws) l)
+  repeated-end h = rw (drop_of_length-le ws h)
 
 -- check 10, by what the name's bytes a are
 module _ (s : List ℕ) (ws : List Span) (w : Span) where
@@ -69,7 +63,7 @@ module _ (s : List ℕ) (ws : List Span) (w : Span) where
 module _ (s : List ℕ) (h : ArchiveHeader) (asked : Asked) (name : List ℕ) (i : ℕ) (best : Option GridDescriptor) where
   grids-step :
       (k p : ℕ) (earlier : List Span) →
-      (then (next_field s h earlier p) λ d q. grids_field s h k (earlier ++ (d.name ∷ [])) (suc i) asked name (when (is_asked s asked name i d) (some d) best) q) ≡
+      (then (next_field s h earlier p) λ d q. grids_field s h k (earlier ++ (d.name ∷ [])) (suc i) asked name (when (is_asked s asked name i d) (Some d) best) q) ≡
       grids_field s h (suc k) earlier i asked name best p
   unfolding grids_field descriptors latest then
   grids-step k p earlier = simp (then-then, check-then)
@@ -77,7 +71,7 @@ module _ (s : List ℕ) (h : ArchiveHeader) (asked : Asked) (name : List ℕ) (i
   module _ (count p : ℕ) (names : List Span) where
     pub grids-more :
         (d : GridDescriptor) (q : ℕ) (found : Option GridDescriptor) → i < count → count ≤ 64 → length names ≡ 64 → got d q ≡ next_field s h (take i names) p →
-        found ≡ when (is_asked s asked name i d) (some d) best →
+        found ≡ when (is_asked s asked name i d) (Some d) best →
         grids_field s h (count - (i + 1)) (take (i + 1) (set names i d.name)) (i + 1) asked name found q ≡ grids_field s h (count - i) (take i names) i asked name best p
     grids-more d q found l m j e z =
         let k : count - i ≡ suc (count - (i + 1)) = omega arith in
@@ -95,7 +89,7 @@ module _ (s : List ℕ) (h : ArchiveHeader) (asked : Asked) (name : List ℕ) (i
         rw k
 
 pub grids-all : (s : List ℕ) (h : ArchiveHeader) (asked : Asked) (name : List ℕ) (count at : ℕ) →
-    grids_field s h (count - 0) [] 0 asked name none at ≡ grids_field s h count [] 0 asked name none at
+    grids_field s h (count - 0) [] 0 asked name None at ≡ grids_field s h count [] 0 asked name None at
 grids-all s h asked name count at =
     let e : count - 0 ≡ count = omega arith in
     rw e
@@ -108,7 +102,7 @@ with-answer g (fails k) = refl
 
 pub in_parts :
     (s : List ℕ) (asked : Asked) (name : List ℕ) {x : Answer AskedFile} →
-    x ≡ answer (then (header s) λ h p. then (grids_field s h h.grid_count [] 0 asked name none p) λ f n. got (record { header = h; grid = f }) n) →
+    x ≡ answer (then (header s) λ h p. then (grids_field s h h.grid_count [] 0 asked name None p) λ f n. got (record { header = h; grid = f }) n) →
     x ≡ file_asked s asked name
 unfolding file_asked file grids_field then
 in_parts s asked name h = simp (with-answer (asked_of s asked name), then-then) (simp then-then at h)

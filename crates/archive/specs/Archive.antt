@@ -1,6 +1,5 @@
 -- Section 2: the whole file, with checks 10 and 11 of section 8 in their places.
-use Rattle.std.specs.Prelude.{ℕ, zero, suc, List, [], ◌∷◌, ◌++◌, Bool, false, not, ◌||◌, eqb}
-use Rattle.std.proofs.Math.Option.{Option, none, some}
+use Rattle.std.specs.Prelude.{ℕ, zero, suc, List, [], ◌∷◌, ◌++◌, Bool, false, not, ◌||◌, eqb, Option, None, Some}
 use Rattle.fields.specs.Parse.{Parse, got, then, check}
 use Rattle.fields.specs.Fields.{bytes_of, same_bytes}
 use Rattle.fields.specs.declared.Span.{Span}
@@ -13,11 +12,12 @@ use Rattle.descriptor.specs.declared.GridDescriptor.{GridDescriptor}
 use Rattle.fields.specs.Answer.{Answer, gives, refuses, answer, with}
 use Rattle.archive.specs.declared.Asked.{Asked}
 use Rattle.archive.specs.declared.Asked.TheVariants as A
+use Rattle.archive.specs.declared.AskedFile.{AskedFile}
 
 -- check 11: what is asked for is there
 unfoldable pub present : {A : Type 0} → Option A → Answer A
-present (some a) = gives a
-present none = refuses 11
+present (Some a) = gives a
+present None = refuses 11
 
 -- whether one of the names has these bytes
 unfoldable pub repeated : List ℕ → List ℕ → List Span → Bool
@@ -55,12 +55,8 @@ is_asked s A.ByName name i d = same_bytes (bytes_of s d.name) name
 is_asked s (A.ByNumber n) name i d = eqb i n
 
 -- an opened file, of which a grid may be asked for
-pub record AskedFile : Type 0 where
-  pub header : ArchiveHeader
-  pub grid : Option GridDescriptor
-
 abbrev pub asked_of : List ℕ → Asked → List ℕ → File → AskedFile
-asked_of s asked name f = record { header = f.header; grid = latest (is_asked s asked name) 0 f.grids none }
+asked_of s asked name f = record { header = f.header; grid = latest (is_asked s asked name) 0 f.grids None }
 
 unfoldable pub file_asked : List ℕ → Asked → List ℕ → Answer AskedFile
 file_asked s asked name = with (answer (file s)) λ f. gives (asked_of s asked name f)

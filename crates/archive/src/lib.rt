@@ -1,17 +1,16 @@
 // Section 2 of document 01: the whole file, with the grid that is asked for.
 #![tactic(auto)]
 
-ghost use Rattle.std.specs.Prelude.{◌≡◌, ◌≤◌, ◌<◌, [], take, true, false};
-ghost use Rattle.std.proofs.Math.Option.{some, none};
+ghost use Rattle.std.specs.Prelude.{◌≡◌, ◌≤◌, ◌<◌, [], length, take, true, false, Some, None};
 ghost use Rattle.fields.specs.Parse.{when};
 ghost use Rattle.fields.specs.Fields.{same_bytes};
-ghost use Rattle.descriptor.specs.Inner.{says_descriptor};
+ghost use Rattle.fields.specs.Says.{says, says_answer};
 ghost use Rattle.archive.specs.Archive.{repeated, is_asked, file_asked};
-ghost use Rattle.archive.specs.Inner.{next_field, says_found_grid, grids_field, says_grids, says_file};
+ghost use Rattle.archive.specs.Inner.{next_field, grids_field};
 
-use descriptor::{DescriptorField, GridDescriptor};
-use fields::{Difference, Span};
-use header::{ArchiveHeader, HeaderField};
+use descriptor::GridDescriptor;
+use fields::{Field, ParseError, Span};
+use header::ArchiveHeader;
 
 // Which grid is asked for, if any; a name stands beside it.
 #[derive(Clone, Copy)]
@@ -21,42 +20,27 @@ pub enum Asked {
     ByNumber(u32),
 }
 
-#[derive(Drop)]
-pub enum FoundGrid {
-    At(GridDescriptor),
-    Nothing,
-}
-
-#[derive(Drop)]
-pub enum GridsField {
-    Got(FoundGrid, usize),
-    Refused(u32),
-}
-
-// An opened file: its header, and the grid that was asked for.
-#[derive(Drop)]
-pub enum FileAnswer {
-    Got(ArchiveHeader, FoundGrid),
-    Refused(u32),
+// An opened file: its header, and the grid that was asked for, if it is there.
+#[derive(Clone, Copy)]
+pub struct AskedFile {
+    pub header: ArchiveHeader,
+    pub grid: Option<GridDescriptor>,
 }
 
 // Whether two names are known to differ: by their lengths, or at one of the first n places.
 fn told_apart(a: &[u8], b: &[u8], places: &[usize; 64], n: usize) -> bool
     requires { n ≤ 64 }
-    ensures { result ≡ true → false ≡ same_bytes a.now b.now }
+    ensures differs { result ≡ true → false ≡ same_bytes a.now b.now }
+    ensures long { result ≡ false → length a.now ≡ length b.now }
 {
     if a.len() != b.len() {
         return true;
     }
-    let mut k = 0;
-    while k < n {
-        let p = places[k];
-        if p < a.len() {
-            if a[p] != b[p] {
-                return true;
-            }
+    for p in &places[..n] {
+        let p = *p;
+        if p < a.len() && a[p] != b[p] {
+            return true;
         }
-        k = k + 1;
     }
     false
 }
@@ -71,9 +55,8 @@ fn same_name(a: &[u8], b: &[u8], places: &mut [usize; 64], n: usize) -> bool
         return false;
     }
     match fields::first_difference(a, b) {
-        Difference::Nowhere => true,
-        Difference::Lengths => false,
-        Difference::At(p) => {
+        None => true,
+        Some(p) => {
             places[n] = p;
             false
         }
@@ -85,13 +68,10 @@ fn is_repeated(s: &[u8], names: [Span; 64], n: usize, name: &[u8], places: &mut 
     requires { n < 64 }
     ensures { result ≡ repeated s.now name.now (take n names) }
 {
-    let mut k = 0;
-    while k < n {
-        let w = names[k];
-        if same_name(fields::bytes_of(s, w), name, places, n) {
+    for w in &names[..n] {
+        if same_name(fields::bytes_of(s, *w), name, places, n) {
             return true;
         }
-        k = k + 1;
     }
     false
 }
@@ -104,20 +84,15 @@ fn read_next(
     n: usize,
     at: usize,
     places: &mut [usize; 64],
-) -> DescriptorField
+) -> Field<GridDescriptor>
     requires { n < 64 }
-    ensures { says_descriptor result ≡ next_field s.now h (take n names) at }
+    ensures { says result ≡ next_field s.now h (take n names) at }
 {
-    match descriptor::read_descriptor(s, h, at) {
-        DescriptorField::Refused(k) => DescriptorField::Refused(k),
-        DescriptorField::Got(d, q) => {
-            let w = d.name;
-            if is_repeated(s, names, n, fields::bytes_of(s, w), places) {
-                return DescriptorField::Refused(10);
-            }
-            DescriptorField::Got(d, q)
-        }
+    let (d, q) = descriptor::read_descriptor(s, h, at)?;
+    if is_repeated(s, names, n, fields::bytes_of(s, d.name), places) {
+        return Err(ParseError::RepeatedGridName);
     }
+    Ok((d, q))
 }
 
 // Whether the descriptor with the number i is the one that is asked for.
@@ -138,54 +113,46 @@ fn newer(
     name: &[u8],
     i: u32,
     d: GridDescriptor,
-    best: FoundGrid,
-) -> FoundGrid
-    ensures { says_found_grid result ≡ when (is_asked s.now asked name.now i d) (some d) (says_found_grid best) }
+    best: Option<GridDescriptor>,
+) -> Option<GridDescriptor>
+    ensures { result ≡ when (is_asked s.now asked name.now i d) (Some d) best }
 {
     if is_asked(s, asked, name, i, d) {
-        return FoundGrid::At(d);
+        return Some(d);
     }
     best
 }
 
 // The descriptors from `at` on, each checked, with the one that is asked for. The names passed so far are kept, so that none is read twice.
-fn read_grids(s: &[u8], h: ArchiveHeader, asked: Asked, name: &[u8], at: usize) -> GridsField
+fn read_grids(
+    s: &[u8],
+    h: ArchiveHeader,
+    asked: Asked,
+    name: &[u8],
+    at: usize,
+) -> Field<Option<GridDescriptor>>
     requires { h.grid_count ≤ 64 }
-    ensures { says_grids result ≡ grids_field s.now h h.grid_count [] 0 asked name.now none at }
+    ensures { says result ≡ grids_field s.now h h.grid_count [] 0 asked name.now None at }
 {
-    let count = h.grid_count;
     let mut names = [Span { start: 0, len: 0 }; 64];
-    let mut places: [usize; 64] = [0; 64];
-    let mut found = FoundGrid::Nothing;
+    let mut places = [0; 64];
+    let mut found = None;
     let mut p = at;
-    let mut i: u32 = 0;
-    while i < count {
+    for i in 0..h.grid_count {
         let n = i as usize;
-        match read_next(s, h, names, n, p, &mut places) {
-            DescriptorField::Refused(k) => {
-                return GridsField::Refused(k);
-            }
-            DescriptorField::Got(d, q) => {
-                let w = d.name;
-                names[n] = w;
-                found = newer(s, asked, name, i, d, found);
-                p = q;
-            }
-        }
-        i = i + 1;
+        let (d, q) = read_next(s, h, names, n, p, &mut places)?;
+        names[n] = d.name;
+        found = newer(s, asked, name, i, d, found);
+        p = q;
     }
-    GridsField::Got(found, p)
+    Ok((found, p))
 }
 
 // The whole file, opened and checked, with the grid that is asked for.
-pub fn read_file(s: &[u8], asked: Asked, name: &[u8]) -> FileAnswer
-    ensures { says_file result ≡ file_asked s.now asked name.now }
+pub fn read_file(s: &[u8], asked: Asked, name: &[u8]) -> Result<AskedFile, ParseError>
+    ensures { says_answer result ≡ file_asked s.now asked name.now }
 {
-    match header::read_header(s) {
-        HeaderField::Refused(k) => FileAnswer::Refused(k),
-        HeaderField::Got(h, p) => match read_grids(s, h, asked, name, p) {
-            GridsField::Refused(k) => FileAnswer::Refused(k),
-            GridsField::Got(found, _) => FileAnswer::Got(h, found),
-        },
-    }
+    let (header, p) = header::read_header(s)?;
+    let (grid, _) = read_grids(s, header, asked, name, p)?;
+    Ok(AskedFile { header, grid })
 }

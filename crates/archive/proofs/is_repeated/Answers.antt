@@ -1,14 +1,17 @@
 -- A name is at this place, or among those behind it, or nowhere once none is left.
-use borrow.Author.Rules.{rules}
-use Rattle.fields.proofs.Steps.{via}
+use mathlib.Core.Path.{◌∙◌}
+use native.Mathlib.Omega.{arith}
+use lib.ListN.{take}
 use Rattle.archive.proofs.Laws.{repeated-here, repeated-later, repeated-end}
 use Rattle.archive.proofs.is_repeated.Goals as goal
 
 pub returns-then-same_name : goal.returns-then-same_name
-returns-then-same_name c = search (repeated-here, via, rules)
+returns-then-same_name c =
+    repeated-here _ _ (take c.args.n c.args.names) c.loop-w.w-index _ (omega arith) c.same_name.ensures c.bytes_of.ensures c.if-same_name.true ∙ c.loop-w.invariant
 
-pub loop-k-preserved : goal.loop-k-preserved
-loop-k-preserved c = search (repeated-later, via, rules)
+pub loop-w-preserved : goal.loop-w-preserved
+loop-w-preserved c =
+    repeated-later _ _ (take c.args.n c.args.names) c.loop-w.w-index _ (omega arith) c.same_name.ensures c.bytes_of.ensures c.if-same_name.false ∙ c.loop-w.invariant
 
 pub returns : goal.returns
-returns c = search (repeated-end, via, rules)
+returns c = repeated-end _ _ (take c.args.n c.args.names) c.loop-w.w-index (omega arith) ∙ c.loop-w.invariant
