@@ -3,4 +3,4 @@ use Rattle.masks.proofs.Words.{is_word}
 use Rattle.masks.proofs.word.Goals as goal
 
 pub returns : goal.returns
-returns c = rw c.u64_at.ensures (is_word _ (λ i. (c.shared_slice_known-1.given i).fits) _ _)
+returns c = rw c.u64_at.ensures (is_word _ (λ i. (c.type_inv.s i).fits) _ _)
