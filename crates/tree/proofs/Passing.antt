@@ -2,17 +2,18 @@
 use mathlib.Core.Path.{◌≡◌, refl, sym, ap, ◌∙◌}
 use mathlib.Core.List.{List, [], ◌∷◌, ◌++◌}
 use mathlib.Core.Bool.{Bool}
-use mathlib.Core.Option.{none, some}
 use Prim.Native.Nat.{ℕ, suc, ◌+◌, ◌-◌, ◌*◌, ◌≤◌, ◌<◌}
 use native.Mathlib.Numerals.{add-one, unary_clauses}
 use native.Mathlib.Omega.{arith}
 use lib.ListN.{length}
 use lib.Dec.{leb, lit≤}
+use Rattle.std.proofs.Common.{None, Some}
 use Rattle.fields.specs.Parse.{Parse, got, fails, then, check, field, many}
 use Rattle.fields.specs.Fields.{bytes_field}
 use Rattle.fields.specs.declared.Span.{Span}
 use Rattle.fields.proofs.Laws.{then-got, then-fails, check-then, made_then, Always, then-always, got-always, field_back, field-whole, field_past, field-long}
 use Rattle.coordinates.specs.declared.GlobalCoord.{GlobalCoord}
+use Rattle.coordinates.specs.declared.Index.{Index}
 use Rattle.masks.specs.Masks.{mask_bit, ones, ones_from, count_below}
 use Rattle.masks.specs.Inner.{next_one}
 use Rattle.masks.proofs.Laws.{next-none, next-some}
@@ -50,16 +51,16 @@ module _ {A B : Type 0} (f : A → ℕ → Parse B) (a : A) (l : List A) (at : �
 
 -- the same for the ones of a mask from a place on
 module _ {B : Type 0} (f : ℕ → ℕ → Parse B) (bit : ℕ → Bool) (n from at : ℕ) where
-  pub ones_none : none ≡ next_one bit n from → got tt at ≡ end_of (many f (ones_from bit from (n - from)) at)
+  pub ones_none : None ≡ next_one bit n from → got tt at ≡ end_of (many f (ones_from bit from (n - from)) at)
   unfolding many end_of then
   ones_none e = rw ((next-none bit n from).0 (sym e))
 
-  module _ {q : ℕ} (e : some q ≡ next_one bit n from) where
-    pub ones-more : {p : ℕ} → got tt p ≡ end_of (f q at) → end_of (many f (ones_from bit (q + 1) (n - (q + 1))) p) ≡ end_of (many f (ones_from bit from (n - from)) at)
-    ones-more g = rw ((next-some bit n from q).0 (sym e), add-one q) (many_more f q _ at g)
+  module _ {q : Index} (e : Some q ≡ next_one bit n from) where
+    pub ones-more : {p : ℕ} → got tt p ≡ end_of (f q.0 at) → end_of (many f (ones_from bit (q.0 + 1) (n - (q.0 + 1))) p) ≡ end_of (many f (ones_from bit from (n - from)) at)
+    ones-more g = rw ((next-some bit n from q).0 (sym e), add-one q.0) (many_more f q.0 _ at g)
 
-    pub ones-fails : {k : ℕ} → fails k ≡ end_of (f q at) → fails k ≡ end_of (many f (ones_from bit from (n - from)) at)
-    ones-fails g = rw ((next-some bit n from q).0 (sym e)) (many-fails f q _ at g)
+    pub ones-fails : {k : ℕ} → fails k ≡ end_of (f q.0 at) → fails k ≡ end_of (many f (ones_from bit from (n - from)) at)
+    ones-fails g = rw ((next-some bit n from q).0 (sym e)) (many-fails f q.0 _ at g)
 
 -- The masks of leaves, in a row, end where as many bytes do.
 bytes-end : (s : List ℕ) (n at : ℕ) → end_of (bytes_field s n at) ≡ check (leb (at + n) (length s)) 2 (got tt (at + n))
