@@ -15,11 +15,8 @@ pub fn fill_same(x: u32, slot: usize, slots: &mut [u32])
     requires { slot + 64 ≤ length slots.old }
     ensures { slots.new ≡ ranged slots.old slot 64 (λ k. x) }
 {
-    let mut k: usize = 0;
-    while k < 64 {
-        let i = slot + k;
-        slots[i] = x;
-        k = k + 1;
+    for k in 0..64 {
+        slots[slot + k] = x;
     }
 }
 
@@ -28,11 +25,8 @@ fn fill_normal(s: &[u8], at: usize, slot: usize, slots: &mut [u32])
     requires { (at + 128 ≤ length s.now) × (are_normal s.now at 64 ≡ true) × (slot + 64 ≤ length slots.old) }
     ensures { slots.new ≡ ranged slots.old slot 64 (λ k. widened (u16_at s.now (at + k * 2))) }
 {
-    let mut k: usize = 0;
-    while k < 64 {
-        let i = slot + k;
-        slots[i] = half::widen_normal(fields::u16_at(s, at + k * 2) as u16);
-        k = k + 1;
+    for k in 0..64 {
+        slots[slot + k] = half::widen_normal(fields::u16_at(s, at + k * 2));
     }
 }
 
@@ -41,11 +35,8 @@ fn fill_stored(s: &[u8], c: Coding, start: usize, number: usize, slot: usize, sl
     requires { InFile s.now c start number 64 × (slot + 64 ≤ length slots.old) }
     ensures { slots.new ≡ ranged slots.old slot 64 (numbered s.now c start number) }
 {
-    let mut k: usize = 0;
-    while k < 64 {
-        let i = slot + k;
-        slots[i] = values::stored_value(s, c, start, number + k);
-        k = k + 1;
+    for k in 0..64 {
+        slots[slot + k] = values::stored_value(s, c, start, number + k);
     }
 }
 
@@ -71,7 +62,7 @@ pub fn put_same(x: u32, ones: u64, slots: &mut [u32])
 {
     let mut left = ones;
     while left != 0 {
-        slots[u64::trailing_zeros(left) as usize] = x;
+        slots[left.trailing_zeros() as usize] = x;
         left = masks::past_lowest(left);
     }
 }
@@ -91,9 +82,9 @@ pub fn put_stored(
     let mut left = ones;
     let mut k = number;
     while left != 0 {
-        slots[u64::trailing_zeros(left) as usize] = values::stored_value(s, c, start, k);
+        slots[left.trailing_zeros() as usize] = values::stored_value(s, c, start, k);
         left = masks::past_lowest(left);
-        k = k + 1;
+        k += 1;
     }
     k
 }

@@ -10,23 +10,11 @@ use Rattle.batch.proofs.fill_normal.Goals as goal
 pub loop-k-init : goal.loop-k-init
 loop-k-init c = filling-none _ _ _
 
-pub overflow_mul-k : goal.overflow_mul-k
-overflow_mul-k c = omega arith
-
-pub overflow_add-at : goal.overflow_add-at
-overflow_add-at c = omega (arith, c.requires.0, c.loop-k-test.true)
-
-pub u16_at-requires : goal.u16_at-requires
-u16_at-requires c = omega (arith, c.requires.0, c.loop-k-test.true)
-
 pub widen_normal-requires : goal.widen_normal-requires
-widen_normal-requires c = ap is_normal c.u16_at.ensures.0 ∙ normal-at _ _ 64 _ c.requires.1 c.loop-k-test.true
-
-pub bounds-slots-i : goal.bounds-slots-i
-bounds-slots-i c = omega (arith, c.loop-k-test.true, c.loop-k.invariant.1, c.requires.2)
+widen_normal-requires c = ap is_normal c.u16_at.ensures ∙ normal-at _ _ 64 _ c.requires.1 (omega arith)
 
 pub loop-k-preserved : goal.loop-k-preserved
-loop-k-preserved c = filling-next _ _ _ _ _ c.loop-k.invariant c.loop-k-test.true (c.widen_normal.ensures ∙ ap widened c.u16_at.ensures.0)
+loop-k-preserved c = filling-next _ _ _ _ _ c.loop-k.invariant (omega arith) (c.widen_normal.ensures ∙ ap widened c.u16_at.ensures)
 
 pub returns : goal.returns
-returns c = filling-all _ _ _ _ _ c.loop-k.invariant c.loop-k-test.false
+returns c = filling-all _ _ _ _ _ c.loop-k.invariant (omega arith)

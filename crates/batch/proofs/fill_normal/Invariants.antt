@@ -1,5 +1,5 @@
--- The invariant: k slots have the first k halves widened. The loop ends at 64.
-use Prim.Native.Nat.{◌+◌, ◌-◌, ◌*◌}
+-- k slots have the first k halves widened.
+use Prim.Native.Nat.{◌+◌, ◌*◌}
 use Rattle.fields.specs.Le.{u16_at}
 use Rattle.half.specs.Half.{widened}
 use Rattle.batch.proofs.Laws.{Filling}
@@ -7,6 +7,3 @@ use Rattle.batch.proofs.fill_normal.Given as goal
 
 abbrev pub invariant-loop-k : goal.invariant-loop-k
 invariant-loop-k l = Filling l.initial.slots l.slot (λ j. widened (u16_at l.s (l.at + j * 2))) l.slots l.k
-
-abbrev pub decreases-loop-k : goal.decreases-loop-k
-decreases-loop-k l = 64 - l.k

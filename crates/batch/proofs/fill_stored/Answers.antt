@@ -6,17 +6,11 @@ use Rattle.batch.proofs.fill_stored.Goals as goal
 pub loop-k-init : goal.loop-k-init
 loop-k-init c = filling-none _ _ _
 
-pub overflow_add-number : goal.overflow_add-number
-overflow_add-number c = omega (arith, c.requires.0.few, c.loop-k-test.true)
-
 pub stored_value-requires : goal.stored_value-requires
-stored_value-requires c = let p = c.requires in (p.0.width, one-in-file _ p.0 c.loop-k-test.true)
-
-pub bounds-slots-i : goal.bounds-slots-i
-bounds-slots-i c = omega (arith, c.loop-k-test.true, c.loop-k.invariant.1, c.requires.1)
+stored_value-requires c = let p = c.requires in (p.0.width, one-in-file _ p.0 (omega arith))
 
 pub loop-k-preserved : goal.loop-k-preserved
-loop-k-preserved c = filling-next _ _ _ _ _ c.loop-k.invariant c.loop-k-test.true c.stored_value.ensures
+loop-k-preserved c = filling-next _ _ _ _ _ c.loop-k.invariant (omega arith) c.stored_value.ensures
 
 pub returns : goal.returns
-returns c = filling-all _ _ _ _ _ c.loop-k.invariant c.loop-k-test.false
+returns c = filling-all _ _ _ _ _ c.loop-k.invariant (omega arith)

@@ -11,9 +11,6 @@ use Rattle.batch.proofs.fill_values.Goals.{Then-c-eq2}
 there : (c : Then-c-eq2) → let a = c.args in a.start + a.number * 2 + 128 ≤ length a.s.now
 there c = halves-there _ _ _ _ c.if-c-eq2.true c.requires.0
 
-pub overflow_mul-at : goal.overflow_mul-at
-overflow_mul-at c = omega (arith, c.requires.0.few)
-
 pub overflow_add-at : goal.overflow_add-at
 overflow_add-at c = omega (arith, there (goal.at.overflow_add-at c).Then-c-eq2)
 

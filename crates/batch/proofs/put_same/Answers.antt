@@ -30,9 +30,6 @@ bounds-slots-left c = omega (arith, (next (goal.at.bounds-slots-left c).In-loop-
 pub past_lowest-left-requires : goal.past_lowest-left-requires
 past_lowest-left-requires c = (left-small (small (goal.at.past_lowest-left-requires c).Start) c.loop-left.invariant.1, c.loop-left-test.true)
 
-pub loop-left-smaller : goal.loop-left-smaller
-loop-left-smaller c = c.past_lowest-left.ensures.1
-
 pub loop-left-preserved : goal.loop-left-preserved
 loop-left-preserved c = (_, setting-next (small (goal.at.loop-left-preserved c).Start) c.loop-left.invariant.1 c.loop-left-test.true refl c.past_lowest-left.ensures.0)
 

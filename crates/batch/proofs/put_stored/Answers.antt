@@ -31,9 +31,6 @@ stored_value-requires c = (c.requires.0.width, there (goal.at.stored_value-requi
 pub overflow_cast-slots : goal.overflow_cast-slots
 overflow_cast-slots c = omega (arith, (next (goal.at.overflow_cast-slots c).In-loop-left).inside)
 
-pub offset_bounds-slots-left : goal.offset_bounds-slots-left
-offset_bounds-slots-left c = omega (arith, (next (goal.at.offset_bounds-slots-left c).In-loop-left).inside)
-
 pub bounds-slots-left : goal.bounds-slots-left
 bounds-slots-left c = omega (arith, (next (goal.at.bounds-slots-left c).In-loop-left).inside, c.loop-left.invariant.1.many)
 
@@ -42,9 +39,6 @@ past_lowest-left-requires c = (left-small (small (goal.at.past_lowest-left-requi
 
 pub overflow_add-k : goal.overflow_add-k
 overflow_add-k c = omega (arith, (there (goal.at.overflow_add-k c).In-loop-left).0)
-
-pub loop-left-smaller : goal.loop-left-smaller
-loop-left-smaller c = c.past_lowest-left.ensures.1
 
 pub loop-left-preserved : goal.loop-left-preserved
 loop-left-preserved c = let a = c.args in let i = c.loop-left.invariant in (
