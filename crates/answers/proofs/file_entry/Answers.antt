@@ -1,13 +1,13 @@
 -- The file is opened first; its metadata is searched from where its header says.
-use Rattle.fields.proofs.Answers.{answers, with-by}
+use Rattle.fields.proofs.Steps.{handed-on-answer}
+use Rattle.fields.proofs.Answers.{with-gives, with-refuses}
 use Rattle.archive.specs.Archive.{file_entry}
-use Rattle.answers.specs.Answers.{says_header_answer}
 use Rattle.answers.proofs.file_entry.Goals as goal
 
-pub returns-in-Refused : goal.returns-in-Refused
+pub returns-in_err-h : goal.returns-in_err-h
 unfolding file_entry
-returns-in-Refused c = search (answers, with-by says_header_answer)
+returns-in_err-h c = handed-on-answer _ _ c.from_residual.ensures.1 (with-refuses _ c.in_err-h.ensures)
 
-pub returns-in-Header : goal.returns-in-Header
+pub returns : goal.returns
 unfolding file_entry
-returns-in-Header c = search (answers, with-by says_header_answer)
+returns c = with-gives _ c.in_ok-h.ensures c.entry_at.ensures

@@ -1,18 +1,16 @@
 -- The whole file is opened first; a grid that is not found is check 11.
-use Rattle.fields.proofs.Answers.{answers, with-by}
-use Rattle.archive.proofs.Laws.{present-by}
-use Rattle.archive.specs.Archive.{present, grid_asked}
-use Rattle.archive.specs.Inner.{says_file, says_found_grid}
+use mathlib.Core.Path.{ap, ◌∙◌}
+use Rattle.fields.specs.Says.{says_answer}
+use Rattle.fields.proofs.Steps.{handed-on-answer}
+use Rattle.fields.proofs.Answers.{with-gives, with-refuses}
+use Rattle.archive.proofs.Laws.{present-answer}
+use Rattle.archive.specs.Archive.{grid_asked}
 use Rattle.answers.proofs.grid_asked.Goals as goal
 
-pub returns-in-Refused : goal.returns-in-Refused
-unfolding grid_asked present
-returns-in-Refused c = search (answers, with-by says_file)
+pub returns-in_err-file : goal.returns-in_err-file
+unfolding grid_asked
+returns-in_err-file c = handed-on-answer _ _ c.from_residual.ensures.1 (with-refuses _ c.in_err-file.ensures)
 
-pub returns-in-At : goal.returns-in-At
-unfolding grid_asked present
-returns-in-At c = search (answers, with-by says_file, present-by says_found_grid)
-
-pub returns-in-Nothing : goal.returns-in-Nothing
-unfolding grid_asked present
-returns-in-Nothing c = search (answers, with-by says_file, present-by says_found_grid)
+pub returns : goal.returns
+unfolding grid_asked
+returns c = with-gives _ c.in_ok-file.ensures (ap says_answer c.ok_or.ensures.value ∙ present-answer _)

@@ -1,13 +1,13 @@
 -- The grid is found first; its metadata is searched from where its descriptor says.
-use Rattle.fields.proofs.Answers.{answers, with-by}
+use Rattle.fields.proofs.Steps.{handed-on-answer}
+use Rattle.fields.proofs.Answers.{with-gives, with-refuses}
 use Rattle.archive.specs.Archive.{grid_entry}
-use Rattle.answers.specs.Answers.{says_descriptor_answer}
 use Rattle.answers.proofs.grid_entry.Goals as goal
 
-pub returns-in-Refused : goal.returns-in-Refused
+pub returns-in_err-d : goal.returns-in_err-d
 unfolding grid_entry
-returns-in-Refused c = search (answers, with-by says_descriptor_answer)
+returns-in_err-d c = handed-on-answer _ _ c.from_residual.ensures.1 (with-refuses _ c.in_err-d.ensures)
 
-pub returns-in-Descriptor : goal.returns-in-Descriptor
+pub returns : goal.returns
 unfolding grid_entry
-returns-in-Descriptor c = search (answers, with-by says_descriptor_answer)
+returns c = with-gives _ c.in_ok-d.ensures c.entry_at.ensures

@@ -1,11 +1,12 @@
 -- Opening a file is opening it with no grid asked for, of which only the header is kept.
-use Rattle.fields.proofs.Answers.{answers, with-by}
+use mathlib.Core.Path.{refl}
+use Rattle.fields.proofs.Steps.{handed-on-answer}
+use Rattle.fields.proofs.Answers.{with-gives, with-refuses}
 use Rattle.archive.proofs.Laws.{open_by}
-use Rattle.archive.specs.Inner.{says_file}
 use Rattle.answers.proofs.open_file.Goals as goal
 
-pub returns-in-Refused : goal.returns-in-Refused
-returns-in-Refused c = search (answers, with-by says_file, open_by)
+pub returns-in_err-file : goal.returns-in_err-file
+returns-in_err-file c = handed-on-answer _ _ c.from_residual.ensures.1 (open_by _ (with-refuses _ c.in_err-file.ensures))
 
-pub returns-in-Got : goal.returns-in-Got
-returns-in-Got c = search (answers, with-by says_file, open_by)
+pub returns : goal.returns
+returns c = open_by _ (with-gives _ c.in_ok-file.ensures refl)
