@@ -10,93 +10,64 @@
 //     Voxel                                          the root of the voxel at 0, and its places
 use asking::{series, show};
 use coordinates::{GlobalCoord, Index};
-use fields::{DVec3Field, I32Field, I64Field, IVec3Field, SpanField, U8Field, U32Field, U64Field};
+use fields::Field;
 use forms::{Coding, Stored};
-use masks::NextOne;
-use runs::ValuesField;
 use std::io::{self, Write};
 
-fn u8_field(out: &mut impl Write, a: U8Field) -> io::Result<()> {
+// A field's value, or that there is none.
+fn field<W: Write, T: Drop, F: FnOnce(&mut W, T) -> io::Result<()>>(
+    out: &mut W,
+    a: Field<T>,
+    shown: F,
+) -> io::Result<()>
+    requires { F.IsAlwaysCallable shown }
+{
     match a {
-        U8Field::Got(v, _) => show::small(out, v as u32),
-        U8Field::Past => show::nothing(out),
-    }
-}
-
-fn u32_field(out: &mut impl Write, a: U32Field) -> io::Result<()> {
-    match a {
-        U32Field::Got(v, _) => show::small(out, v),
-        U32Field::Past => show::nothing(out),
-    }
-}
-
-fn u64_field(out: &mut impl Write, a: U64Field) -> io::Result<()> {
-    match a {
-        U64Field::Got(v, _) => show::number(out, v),
-        U64Field::Past => show::nothing(out),
-    }
-}
-
-fn i32_field(out: &mut impl Write, a: I32Field) -> io::Result<()> {
-    match a {
-        I32Field::Got(v, _) => show::signed32(out, v),
-        I32Field::Past => show::nothing(out),
-    }
-}
-
-fn i64_field(out: &mut impl Write, a: I64Field) -> io::Result<()> {
-    match a {
-        I64Field::Got(v, _) => show::signed(out, v),
-        I64Field::Past => show::nothing(out),
-    }
-}
-
-fn f64_field(out: &mut impl Write, a: U64Field) -> io::Result<()> {
-    match a {
-        U64Field::Got(v, _) => show::double(out, fields::f64_of(v)),
-        U64Field::Past => show::nothing(out),
-    }
-}
-
-fn i_vec3_field(out: &mut impl Write, a: IVec3Field) -> io::Result<()> {
-    match a {
-        IVec3Field::Got(v, _) => show::i_vec3(out, v),
-        IVec3Field::Past => show::nothing(out),
-    }
-}
-
-fn d_vec3_field(out: &mut impl Write, a: DVec3Field) -> io::Result<()> {
-    match a {
-        DVec3Field::Got(v, _) => show::d_vec3(out, v),
-        DVec3Field::Past => show::nothing(out),
-    }
-}
-
-fn name_field(out: &mut impl Write, a: SpanField, s: &[u8]) -> io::Result<()> {
-    match a {
-        SpanField::Got(w, _) => show::span(out, s, w),
-        SpanField::Past => show::nothing(out),
+        Ok((v, _)) => shown(out, v),
+        Err(_) => show::nothing(out),
     }
 }
 
 fn numbers(out: &mut impl Write, s: &[u8], at: usize) -> io::Result<()> {
-    u8_field(out, fields::read_u8(s, at))?;
-    u32_field(out, fields::read_u32(s, at))?;
-    u64_field(out, fields::read_u64(s, at))?;
-    i32_field(out, fields::read_i32(s, at))?;
-    i64_field(out, fields::read_i64(s, at))
+    field(
+        out,
+        fields::read_u8(s, at),
+        |out, v| show::small(out, u32::from(v)),
+    )?;
+    field(out, fields::read_u32(s, at), |out, v| show::small(out, v))?;
+    field(out, fields::read_u64(s, at), |out, v| show::number(out, v))?;
+    field(
+        out,
+        fields::read_i32(s, at),
+        |out, v| show::signed32(out, v),
+    )?;
+    field(out, fields::read_i64(s, at), |out, v| show::signed(out, v))
 }
 
 fn fields_at(out: &mut impl Write, s: &[u8], at: usize) -> io::Result<()> {
     numbers(out, s, at)?;
-    f64_field(out, fields::read_u64(s, at))?;
-    i_vec3_field(out, fields::read_i_vec3(s, at))?;
-    d_vec3_field(out, fields::read_d_vec3(s, at))?;
-    name_field(out, fields::read_name(s, at), s)
+    field(out, fields::read_u64(s, at), |out, v| {
+        show::double(out, fields::f64_of(v))
+    })?;
+    field(
+        out,
+        fields::read_i_vec3(s, at),
+        |out, v| show::i_vec3(out, v),
+    )?;
+    field(
+        out,
+        fields::read_d_vec3(s, at),
+        |out, v| show::d_vec3(out, v),
+    )?;
+    field(
+        out,
+        fields::read_name(s, at),
+        |out, w| show::span(out, s, w),
+    )
 }
 
 fn half(i: usize) -> u64 {
-    half::widen((i % 65536) as u16) as u64
+    u64::from(half::widen((i % 65536) as u16))
 }
 
 // The value of place p of the node whose child mask stands at 0: 4294967296 and the refusal where the values are refused, 8589934592 where the
@@ -121,15 +92,15 @@ fn value_of(
         return 0;
     }
     match runs::read_values(s, coding, Stored::Childless, bytes, 0, bytes, 2 * bytes) {
-        ValuesField::Refused(k) => 4294967296 + k as u64,
-        ValuesField::Got(v, e) => {
+        Err(e) => 4294967296 + u64::from(u32::from(e)),
+        Ok((v, end)) => {
             if 8 * bytes <= p {
-                return e as u64;
+                return end as u64;
             }
             if masks::bit(s, 0, bytes, Index(p as u32)) {
                 return 8589934592;
             }
-            values::place_value(s, coding, bytes, 0, bytes, v, Index(p as u32)) as u64
+            u64::from(values::place_value(s, coding, bytes, 0, bytes, v, Index(p as u32)))
         }
     }
 }
@@ -150,10 +121,10 @@ fn low(n: u64) -> u32 {
     (n % 4294967296) as u32
 }
 
-fn next(out: &mut impl Write, a: NextOne) -> io::Result<()> {
+fn next(out: &mut impl Write, a: Option<Index>) -> io::Result<()> {
     match a {
-        NextOne::At(q) => show::small(out, q.0),
-        NextOne::Nothing => show::nothing(out),
+        Some(q) => show::small(out, q.0),
+        None => show::nothing(out),
     }
 }
 
@@ -169,12 +140,12 @@ fn mask(out: &mut impl Write, s: &[u8], start: usize, n: usize, place: usize) ->
     if 8 * bytes < p {
         return Ok(());
     }
-    let q = p as u32;
-    show::small(out, masks::count_ones_below(s, at, bytes, Index(q)))?;
-    show::small(out, masks::count_zeros_below(s, at, bytes, Index(q)))?;
-    next(out, masks::next_one(s, at, bytes, Index(q)))?;
+    let q = Index(p as u32);
+    show::small(out, masks::count_ones_below(s, at, bytes, q))?;
+    show::small(out, masks::count_zeros_below(s, at, bytes, q))?;
+    next(out, masks::next_one(s, at, bytes, q))?;
     if p < 8 * bytes {
-        show::flag(out, masks::bit(s, at, bytes, Index(q)))?;
+        show::flag(out, masks::bit(s, at, bytes, q))?;
     }
     Ok(())
 }
@@ -191,16 +162,10 @@ fn two(out: &mut impl Write, s: &[u8], one: usize, other: usize, n: usize) -> io
 }
 
 fn stored(out: &mut impl Write, s: &[u8], at: usize, width: usize) -> io::Result<()> {
-    if s.len() < 4 {
+    if s.len() < 4 || s.len() - 4 < at {
         return Ok(());
     }
-    if s.len() - 4 < at {
-        return Ok(());
-    }
-    if width == 2 {
-        return show::pattern(out, half::value_at(s, at, 2));
-    }
-    show::pattern(out, half::value_at(s, at, 4))
+    show::pattern(out, half::value_at(s, at, if width == 2 { 2 } else { 4 }))
 }
 
 fn coord(out: &mut impl Write, v: GlobalCoord) -> io::Result<()> {
@@ -212,8 +177,8 @@ fn coord(out: &mut impl Write, v: GlobalCoord) -> io::Result<()> {
 // The vector at 0.
 fn vector(s: &[u8]) -> GlobalCoord {
     match fields::read_i_vec3(s, 0) {
-        IVec3Field::Got(v, _) => GlobalCoord(v.x, v.y, v.z),
-        IVec3Field::Past => GlobalCoord(0, 0, 0),
+        Ok((v, _)) => coordinates::origin_of(v),
+        Err(_) => GlobalCoord(0, 0, 0),
     }
 }
 
@@ -254,63 +219,19 @@ fn back(out: &mut impl Write, v: GlobalCoord) -> io::Result<()> {
     index(out, coordinates::global_coord_to_offset(v, 8, 1), 8)
 }
 
-fn ask_down(out: &mut impl Write, s: &[u8], a: usize, b: usize, c: usize) -> io::Result<()> {
-    down(out, vector(s), low(a as u64), low(b as u64), low(c as u64))
-}
-
-// The number at place i of the row that a command asks for.
-fn item(command: u8, s: &[u8], n: &[u64; 8], i: usize) -> u64 {
-    match command {
-        b'H' => half(i),
-        _ => place(s, n, i),
-    }
-}
-
-// The places from `from` to the one before `to`.
-fn row(
-    out: &mut impl Write,
-    command: u8,
-    s: &[u8],
-    n: &[u64; 8],
-    from: usize,
-    to: usize,
-) -> io::Result<()> {
-    let mut sum = 0;
-    for i in from..to {
-        sum = series::add(sum, item(command, s, n, i));
-    }
-    series::end(out, sum)
-}
-
-fn ask_at(
-    out: &mut impl Write,
-    command: u8,
-    s: &[u8],
-    n: &[u64; 8],
-    a: usize,
-    b: usize,
-    c: usize,
-) -> io::Result<()> {
+pub fn ask(out: &mut impl Write, command: u8, s: &[u8], n: &[u64; 8]) -> io::Result<()> {
+    let a = n[1] as usize;
+    let b = n[2] as usize;
+    let c = n[3] as usize;
     match command {
         b'F' => fields_at(out, s, a),
         b'M' => mask(out, s, a, b, c),
         b'D' => two(out, s, a, b, c),
-        b'H' | b'N' => row(out, command, s, n, a, b),
+        b'H' => series::row(out, a, b, half),
+        b'N' => series::row(out, a, b, |p| place(s, n, p)),
         b'S' => stored(out, s, a, b),
-        b'P' => ask_down(out, s, a, b, c),
+        b'P' => down(out, vector(s), low(n[1]), low(n[2]), low(n[3])),
         b'V' => back(out, vector(s)),
         _ => Ok(()),
     }
-}
-
-pub fn ask(out: &mut impl Write, command: u8, s: &[u8], n: &[u64; 8]) -> io::Result<()> {
-    ask_at(
-        out,
-        command,
-        s,
-        n,
-        n[1] as usize,
-        n[2] as usize,
-        n[3] as usize,
-    )
 }

@@ -4,4 +4,4 @@ use Rattle.runs.proofs.Laws.{values-held}
 use Rattle.parts.proofs.layers.value_of.Goals as goal
 
 pub place_value-requires : goal.place_value-requires
-place_value-requires c = (values-held _ _ _ _ _ _ _ (search rules) (search rules) (search rules) c.in-Got.ensures, search rules)
+place_value-requires c = (values-held _ _ _ _ _ _ _ (search rules) (search rules) (search rules) c.in-Ok.ensures, search rules)
