@@ -2,19 +2,25 @@
 use mathlib.Core.Path.{◌≡◌, refl, sym, ap, ◌∙◌}
 use mathlib.Core.List.{List, []}
 use mathlib.Core.Bool.{Bool, true, false}
-use mathlib.Core.Option.{Option, none, some}
+use Rattle.std.specs.Prelude.{Option, None, Some, Result}
+use Rattle.std.specs.Result.{IsErrAnd}
+use Rattle.std.proofs.lemmas.Result.{err_from_is_err_and}
 use Prim.Native.Nat.{ℕ, suc, ◌+◌, ◌-◌, ◌*◌, ◌≤◌, ◌<◌}
 use native.Mathlib.Numerals.{add-one}
 use native.Mathlib.Omega.{arith}
 use lib.ListN.{length}
 use borrow.Author.Tests.{le-leb, lt-leb, leb-true}
 use Rattle.fields.specs.Parse.{Parse, got, fails, when}
+use Rattle.fields.specs.Answer.{gives, refuses}
 use Rattle.fields.specs.Fields.{bytes_field, i_vec3_field}
+use Rattle.fields.specs.Says.{number}
 use Rattle.fields.specs.declared.Span.{Span}
 use Rattle.fields.specs.declared.IVec3.{IVec3}
+use Rattle.fields.specs.declared.ParseError.{ParseError}
 use Rattle.fields.proofs.Laws.{then-got, then-fails, when_true, when_false}
 use Rattle.coordinates.specs.Coordinates.{index, global_of, aligned, origin_of}
 use Rattle.coordinates.specs.declared.GlobalCoord.{GlobalCoord}
+use Rattle.coordinates.specs.declared.Index.{Index}
 use Rattle.coordinates.proofs.Axis.{and_both}
 use Rattle.masks.specs.Masks.{mask_bit, ones_from}
 use Rattle.masks.specs.Inner.{next_one}
@@ -26,9 +32,10 @@ use Rattle.nodes.specs.declared.Block.{Block}
 use Rattle.tree.specs.Topology.{leaf_field}
 use Rattle.tree.specs.Active.{Piece, leaf_piece}
 use Rattle.cursor.specs.Inner.{Rest, Stop, only, refused_by, stop, after, Onward, for_each, between_roots, in_node5, in_node4}
-use Rattle.cursor.specs.Inner.{entered_at, beyond, is_entered, next_child, children_of, leaving, leaf_rest, node4_rest, roots_rest, from5, from4, to_come}
+use Rattle.cursor.specs.Inner.{entered_at, beyond, is_entered, next_child, children_of, leaving, leaf_rest, node4_rest, roots_rest, from5, from4, to_come, says_piece}
 use Rattle.cursor.specs.declared.Entered.{Entered}
 use Rattle.cursor.specs.declared.Cursor.{Cursor}
+use Rattle.cursor.specs.declared.Piece.{Piece as CodePiece}
 
 -- what comes after a field that is there, and after one that is not
 pub after-got : {A : Type 0} {m : Parse A} (f : A → ℕ → Rest Stop) {x : Rest Stop} {a : A} {n : ℕ} → got a n ≡ m → x ≡ f a n → x ≡ after m f
@@ -38,6 +45,12 @@ after-got f e h = h ∙ ap (λ (m : Parse _). after m f) e
 pub after-fails : {A : Type 0} {m : Parse A} (f : A → ℕ → Rest Stop) {k : ℕ} → fails k ≡ m → refused_by k ≡ after m f
 unfolding after
 after-fails f e = ap (λ (m : Parse _). after m f) e
+
+-- the refusal e that a `?` hands on
+pub handed-piece :
+    (s : List ℕ) (c : Coding) (r : Result (Option (CodePiece × Cursor)) ParseError) (e : ParseError) {x : Rest Stop} → IsErrAnd r (λ d. d ≡ e) →
+    refused_by (number e) ≡ x → says_piece s c r ≡ x
+handed-piece s c r e h k = let p = err_from_is_err_and r h in ap (says_piece s c) p.1 ∙ ap (λ d. refused_by (number d)) p.2 ∙ k
 
 -- Words that are a node's: what they have, and by which test they are none.
 pub record EnteredNode (s : List ℕ) (m n : ℕ) (w : Entered) : Type 0 where
@@ -66,54 +79,56 @@ module _ (s : List ℕ) (m n : ℕ) (w : Entered) where
       record { within = leb-true _ _ a.0; places = leb-true _ _ b.0; multiple = b.1 }
 
   -- their next child
-  abbrev found : Option ℕ
+  abbrev found : Option Index
   found = next_one (mask_bit s w.pos) (8 * n) w.next
 
-  no_node : none ≡ next_child s m n w → is_entered s m n w ≡ false
+  no_node : {j : ℕ} → refuses j ≡ next_child s m n w → (is_entered s m n w ≡ false) × (j ≡ 22)
   unfolding next_child when
-  no_node = go (is_entered s m n w)
+  no_node {j} = go (is_entered s m n w)
     where
-      go : (b : Bool) → none ≡ when b (some found) none → b ≡ false
+      go : (b : Bool) → refuses j ≡ when b (gives found) (refuses 22) → (b ≡ false) × (j ≡ 22)
       go true e = cc
-      go false e = refl
+      go false e = (refl, cc)
 
-  next-back : {x : Option ℕ} → some x ≡ next_child s m n w → (is_entered s m n w ≡ true) × (x ≡ found)
+  next-back : {x : Option Index} → gives x ≡ next_child s m n w → (is_entered s m n w ≡ true) × (x ≡ found)
   unfolding next_child when
   next-back {x} = go (is_entered s m n w)
     where
-      go : (b : Bool) → some x ≡ when b (some found) none → (b ≡ true) × (x ≡ found)
+      go : (b : Bool) → gives x ≡ when b (gives found) (refuses 22) → (b ≡ true) × (x ≡ found)
       go true e = (refl, cc)
       go false e = (cc, cc)
 
-  pub next-origin : {x : Option ℕ} → some x ≡ next_child s m n w → aligned m w.origin ≡ true
+  pub next-origin : {x : Option Index} → gives x ≡ next_child s m n w → aligned m w.origin ≡ true
   next-origin e = (entered-back (next-back e).0).multiple
 
-  pub next_place : {q : ℕ} → some (some q) ≡ next_child s m n w → q < 8 * n
+  pub next_place : {q : Index} → gives (Some q) ≡ next_child s m n w → q.0 < 8 * n
   next_place e = next-lt (mask_bit s w.pos) (8 * n) w.next _ (sym (next-back e).1)
 
 -- In a node: the words are none, no child is left, or the next one comes and then the rest of the node.
 module _ (s : List ℕ) (m n : ℕ) (f : ℕ → Onward → Onward) (w : Entered) (k : Onward) (at block : ℕ) where
-  pub children-refused : none ≡ next_child s m n w → refused_by 22 ≡ children_of s m n f w k at block
+  pub children-refused : {j : ℕ} → refuses j ≡ next_child s m n w → refused_by j ≡ children_of s m n f w k at block
   unfolding children_of
-  children-refused e = when_false _ (sym (no_node s m n w e)) refl
+  children-refused e =
+      let b = no_node s m n w e in
+      when_false _ (sym b.0) (ap refused_by b.1)
 
-  pub children-none : some none ≡ next_child s m n w → k at block ≡ children_of s m n f w k at block
+  pub children-none : gives None ≡ next_child s m n w → k at block ≡ children_of s m n f w k at block
   unfolding children_of for_each
   children-none e =
       let b = next-back s m n w e in
       when_true _ (sym b.0) (rw ((next-none (mask_bit s w.pos) (8 * n) w.next).0 (sym b.1)))
 
-  pub children-some : {q : ℕ} → some (some q) ≡ next_child s m n w → f q (children_of s m n f (beyond w.origin w.pos q) k) at block ≡ children_of s m n f w k at block
+  pub children-some : {q : Index} → gives (Some q) ≡ next_child s m n w → f q.0 (children_of s m n f (beyond w.origin w.pos q.0) k) at block ≡ children_of s m n f w k at block
   unfolding children_of for_each
   children-some {q} e =
       let b = next-back s m n w e in
-      (λ i. f q (λ x y. later x y i) at block) ∙ when_true _ (sym b.0) (rw ((next-some (mask_bit s w.pos) (8 * n) w.next q).0 (sym b.1)))
+      (λ i. f q.0 (λ x y. later x y i) at block) ∙ when_true _ (sym b.0) (rw ((next-some (mask_bit s w.pos) (8 * n) w.next q).0 (sym b.1)))
     where
-      later : (x y : ℕ) → children_of s m n f (beyond w.origin w.pos q) k x y ≡ for_each f (ones_from (mask_bit s w.pos) (suc q) (8 * n - suc q)) k x y
+      later : (x y : ℕ) → children_of s m n f (beyond w.origin w.pos q.0) k x y ≡ for_each f (ones_from (mask_bit s w.pos) (suc q.0) (8 * n - suc q.0)) k x y
       later x y =
           let h = entered-back s m n w (next-back s m n w e).0 in
           let l = next_place s m n w e in
-          sym (when_true _ (entered-aligned s m n (beyond w.origin w.pos q) h.within (omega arith) (sym h.multiple)) (rw (add-one q)))
+          sym (when_true _ (entered-aligned s m n (beyond w.origin w.pos q.0) h.within (omega arith) (sym h.multiple)) (rw (add-one q.0)))
 
 -- what a cursor hands out, where its depth is known
 module _ (s : List ℕ) (c : Coding) (left at block : ℕ) where

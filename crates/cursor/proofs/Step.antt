@@ -2,15 +2,17 @@
 use mathlib.Core.Path.{◌≡◌, refl, sym, ap, ◌∙◌, subst}
 use mathlib.Core.List.{List, []}
 use mathlib.Core.Bool.{Bool, true, false}
-use mathlib.Core.Option.{Option, none, some}
+use Rattle.std.specs.Prelude.{Option, None, Some}
 use Prim.Native.Nat.{ℕ, zero, suc, ◌<◌}
 use native.Mathlib.Omega.{arith}
 use lib.Dec.{lit≤}
 use lib.ListN.{length, get_or, drop}
 use Rattle.fields.specs.Parse.{Parse, got, fails, when}
+use Rattle.fields.specs.Answer.{Answer, gives, refuses}
 use Rattle.fields.proofs.Laws.{Always, then-always, check-always, got-always}
 use Rattle.coordinates.specs.Coordinates.{index, aligned}
 use Rattle.coordinates.specs.declared.GlobalCoord.{GlobalCoord}
+use Rattle.coordinates.specs.declared.Index.{Index}
 use Rattle.coordinates.proofs.Laws.{child-aligned}
 use Rattle.half.specs.Inner.{IsWidth}
 use Rattle.masks.specs.Masks.{mask_bit}
@@ -58,10 +60,10 @@ module _ (s : List ℕ) (c : Coding) (wide : IsWidth c.width) where
       (aligned m w.origin ≡ true → Step s c (k at block)) → Step s c (children_of s m n f w k at block)
   children-step m n f w k at block child own = go (next_child s m n w) refl
     where
-      go : (x : Option (Option ℕ)) → x ≡ next_child s m n w → Step s c (children_of s m n f w k at block)
-      go none e = subst (Step s c) (children-refused s m n f w k at block e) (refused 22)
-      go (some none) e = subst (Step s c) (children-none s m n f w k at block e) (own (next-origin s m n w e))
-      go (some (some q)) e = subst (Step s c) (children-some s m n f w k at block e) (child (next-origin s m n w e) q)
+      go : (x : Answer (Option Index)) → x ≡ next_child s m n w → Step s c (children_of s m n f w k at block)
+      go (refuses j) e = subst (Step s c) (children-refused s m n f w k at block e) (refused j)
+      go (gives None) e = subst (Step s c) (children-none s m n f w k at block e) (own (next-origin s m n w e))
+      go (gives (Some q)) e = subst (Step s c) (children-some s m n f w k at block e) (child (next-origin s m n w e) q.0)
 
   leaf-step :
       (left : ℕ) (five : Entered) (o : GlobalCoord) (node : ℕ) → aligned 128 o ≡ true → (p at block : ℕ) →

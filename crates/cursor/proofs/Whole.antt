@@ -3,7 +3,7 @@
 use mathlib.Core.Path.{◌≡◌, refl, sym, ap, subst, ◌∙◌}
 use mathlib.Core.List.{List, [], ◌∷◌, ◌++◌, append_assoc, append-nil, flat_map}
 use mathlib.Core.Bool.{true}
-use mathlib.Core.Option.{some}
+use Rattle.std.specs.Prelude.{Some}
 use Prim.Native.Nat.{ℕ, zero, suc, ◌-◌, ◌*◌, ◌%◌, ◌≤◌}
 use native.Mathlib.Omega.{arith}
 use lib.Dec.{lit≤}
@@ -37,7 +37,7 @@ prepend-append xs ys r = ap (λ (l : List Piece). record { items = l; refusal = 
 -- Of what the blocks give by m, x hands out the pieces, and then what k does from behind them; where they are refused, x ends with that refusal.
 unfoldable Hands : {B : Type 0} → Parse B → (B → List Piece) → (ℕ → Rest Stop) → Rest Stop → Type 0
 Hands (got b r) own k x = pieces_of x ≡ prepend (own b) (pieces_of (k r))
-Hands (fails j) own k x = x.refusal ≡ some j
+Hands (fails j) own k x = x.refusal ≡ Some j
 
 module _ {B : Type 0} (own : B → List Piece) (k : ℕ → Rest Stop) (x : Rest Stop) where
   -- in each of the two cases
@@ -49,7 +49,7 @@ module _ {B : Type 0} (own : B → List Piece) (k : ℕ → Rest Stop) (x : Rest
   unfolding Hands
   hands-got m h e = subst (λ (m : Parse B). Hands m own k x) (sym e) h
 
-  hands-fails : (m : Parse B) {j : ℕ} → Hands m own k x → fails j ≡ m → x.refusal ≡ some j
+  hands-fails : (m : Parse B) {j : ℕ} → Hands m own k x → fails j ≡ m → x.refusal ≡ Some j
   unfolding Hands
   hands-fails m h e = subst (λ (m : Parse B). Hands m own k x) (sym e) h
 
@@ -184,7 +184,7 @@ module _ (s : List ℕ) (c : Coding) where
     pub blocks-there : {filled : List Filled5} {past : ℕ} → got filled past ≡ blocks_field s c roots block → pieces_of (to_come s c (between_roots count at block)) ≡ only (pieces filled)
     blocks-there {filled} e = hands-got _ _ _ _ handed e ∙ ap only (append-nil (pieces filled))
 
-    pub blocks-refused : {j : ℕ} → fails j ≡ blocks_field s c roots block → (to_come s c (between_roots count at block)).refusal ≡ some j
+    pub blocks-refused : {j : ℕ} → fails j ≡ blocks_field s c roots block → (to_come s c (between_roots count at block)).refusal ≡ Some j
     blocks-refused e = hands-fails _ _ _ _ handed e
 
 -- A tree that was read with its blocks. The start is the cursor between roots with all of them to come.

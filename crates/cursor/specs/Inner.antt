@@ -1,12 +1,15 @@
 -- Inner matter: only contracts of inner functions cite it, and nothing here has to be believed.
 -- It says what a cursor, whatever its words are, still hands out. That from the start on this is the tree's own pieces is proved in
 -- proofs/Whole.antt.
-use Rattle.std.specs.Prelude.{ℕ, zero, suc, ◌+◌, ◌-◌, ◌*◌, ◌/◌, ◌<◌, List, [], ◌∷◌, ◌++◌, map, Bool, true, ◌&&◌, ◌≡◌, leb, eqb, pos, length}
-use Rattle.std.proofs.Math.Option.{Option, none, some}
+use Rattle.std.specs.Prelude.{ℕ, zero, suc, ◌+◌, ◌-◌, ◌*◌, ◌/◌, ◌<◌, List, [], ◌∷◌, ◌++◌, map, Bool, true, ◌&&◌, ◌≡◌, leb, eqb, pos, length, Option, None, Some, Result, Ok, Err}
 use Rattle.fields.specs.Parse.{Parse, got, fails, when}
+use Rattle.fields.specs.Answer.{Answer, gives, refuses}
+use Rattle.fields.specs.Says.{number}
+use Rattle.fields.specs.declared.ParseError.{ParseError}
 use Rattle.fields.specs.Fields.{i_vec3_field}
 use Rattle.coordinates.specs.Coordinates.{index, places, global_of, aligned, origin_of}
 use Rattle.coordinates.specs.declared.GlobalCoord.{GlobalCoord}
+use Rattle.coordinates.specs.declared.Index.{Index}
 use Rattle.masks.specs.Masks.{mask_bit, ones_from}
 use Rattle.masks.specs.Inner.{next_one}
 use Rattle.runs.specs.Runs.{is_stored}
@@ -19,10 +22,6 @@ use Rattle.tree.specs.Active.{Piece, side_of, edge_of, leaf_piece}
 use Rattle.cursor.specs.declared.Piece.{Piece as CodePiece}
 use Rattle.cursor.specs.declared.Entered.{Entered}
 use Rattle.cursor.specs.declared.Cursor.{Cursor}
-use Rattle.cursor.specs.declared.NextPiece.{NextPiece}
-use Rattle.cursor.specs.declared.NextPiece.TheVariants.{At, End, Refused}
-use Rattle.cursor.specs.declared.NextChild.{NextChild}
-use Rattle.cursor.specs.declared.NextChild.TheVariants.{At as ChildAt, Nothing as NoChild, Refused as RefusedChild}
 
 -- What is to come, one by one, and the check that refuses what would follow, if one does.
 pub record Rest (A : Type 0) : Type 0 where
@@ -31,10 +30,10 @@ pub record Rest (A : Type 0) : Type 0 where
 
 -- these and then the end; a refusal at once; these and then that
 abbrev pub only : {A : Type 0} → List A → Rest A
-only xs = record { items = xs; refusal = none }
+only xs = record { items = xs; refusal = None }
 
 abbrev pub refused_by : {A : Type 0} → ℕ → Rest A
-refused_by k = record { items = []; refusal = some k }
+refused_by k = record { items = []; refusal = Some k }
 
 abbrev pub prepend : {A : Type 0} → List A → Rest A → Rest A
 prepend xs r = record { items = xs ++ r.items; refusal = r.refusal }
@@ -91,9 +90,9 @@ beyond origin at p = record { origin = origin; pos = at; next = p + 1 }
 unfoldable pub is_entered : List ℕ → ℕ → ℕ → Entered → Bool
 is_entered s m n w = leb (w.pos + n) (length s) && (leb w.next (8 * n) && aligned m w.origin)
 
--- the place of such a node's next child, if one is left; none, where the words are no node's
-unfoldable pub next_child : List ℕ → ℕ → ℕ → Entered → Option (Option ℕ)
-next_child s m n w = when (is_entered s m n w) (some (next_one (mask_bit s w.pos) (8 * n) w.next)) none
+-- the place of such a node's next child, if one is left; words that are no node's get check 22
+unfoldable pub next_child : List ℕ → ℕ → ℕ → Entered → Answer (Option Index)
+next_child s m n w = when (is_entered s m n w) (gives (next_one (mask_bit s w.pos) (8 * n) w.next)) (refuses 22)
 
 -- In a node: f for each child from its next place on, then k. Words that are no node's get check 22.
 unfoldable pub children_of : List ℕ → ℕ → ℕ → (ℕ → Onward → Onward) → Entered → Onward → Onward
@@ -154,19 +153,14 @@ to_come s c x =
     (when (eqb x.depth 1) (from5 s c x.roots_left x.node5 x.topology_pos x.block_pos)
     (from4 s c x.roots_left x.node5 x.node4 x.topology_pos x.block_pos))
 
--- What each answer of the code says.
+-- what the code's answer says
 abbrev pub piece_of : CodePiece → Piece
 piece_of q = record { level = q.level; origin = q.origin; child = q.child; value = q.value; values = q.values }
 
-abbrev pub says_piece : List ℕ → Coding → NextPiece → Rest Stop
-says_piece s c (At q x) = stop (piece_of q) x (to_come s c x)
-says_piece s c End = only []
-says_piece s c (Refused k) = refused_by k
-
-abbrev pub says_child : NextChild → Option (Option ℕ)
-says_child (ChildAt p) = some (some p.0)
-says_child NoChild = some none
-says_child RefusedChild = none
+abbrev pub says_piece : List ℕ → Coding → Result (Option (CodePiece × Cursor)) ParseError → Rest Stop
+says_piece s c (Ok (Some (q, x))) = stop (piece_of q) x (to_come s c x)
+says_piece s c (Ok None) = only []
+says_piece s c (Err e) = refused_by (number e)
 
 -- What a reader of a piece's places asks, and every piece that is handed out has (proofs/Step.antt): its masks and values lie in the file, its
 -- origin is a multiple of its span, an active place is stored, and a leaf has its value mask in place of a child mask.

@@ -4,17 +4,17 @@
 #![tactic(auto)]
 
 ghost use Rattle.std.specs.Prelude.{◌≡◌, true, ◌+◌, ◌%◌, ◌≤◌, ◌<◌};
+ghost use Rattle.fields.specs.Says.{says_answer};
 ghost use Rattle.coordinates.specs.Coordinates.{aligned};
 ghost use Rattle.coordinates.specs.Inner.{Divides};
 ghost use Rattle.half.specs.Inner.{IsWidth};
 ghost use Rattle.tree.specs.Active.{leaf_piece};
-ghost use Rattle.cursor.specs.Inner.{between_roots, is_entered, leaving, leaf_rest, node4_rest, roots_rest, from5, from4, beyond, to_come, piece_of, says_piece, next_child, says_child};
+ghost use Rattle.cursor.specs.Inner.{between_roots, is_entered, leaving, leaf_rest, node4_rest, roots_rest, from5, from4, beyond, to_come, piece_of, says_piece, next_child};
 
 use coordinates::{GlobalCoord, Index};
-use fields::{IVec3Field, SpanField};
+use fields::ParseError;
 use forms::Coding;
-use masks::NextOne;
-use nodes::{Block, BlockField, Leaf, NodeField};
+use nodes::{Block, Leaf};
 use runs::Values;
 
 // A leaf, a 4-node or a 5-node: level 0, 1 or 2, its origin, where its masks stand, and its values. A leaf has no child mask; the position of
@@ -49,22 +49,6 @@ pub struct Cursor {
     pub block_pos: usize,
 }
 
-// The next piece and the cursor behind it, or that no piece is left, or the check that refuses the next one.
-#[derive(Drop)]
-pub enum NextPiece {
-    At(Piece, Cursor),
-    End,
-    Refused(u32),
-}
-
-// The place of a node's next child, or that none is left, or that the words are no node.
-#[derive(Drop)]
-enum NextChild {
-    At(Index),
-    Nothing,
-    Refused,
-}
-
 // The cursor between roots, of which so many follow. Where all of a tree's roots follow, this is the start.
 pub fn between_roots(roots_left: u32, topology_pos: usize, block_pos: usize) -> Cursor
     ensures { result ≡ between_roots roots_left topology_pos block_pos }
@@ -91,45 +75,33 @@ pub fn is_entered(s: &[u8], m: u32, n: usize, w: Entered) -> bool
     requires { Divides m × (n ≤ 4096) }
     ensures { result ≡ is_entered s.now m n w }
 {
-    let origin = w.origin;
-    if s.len() < n {
-        return false;
-    }
-    if s.len() - n < w.pos {
-        return false;
-    }
-    if 8 * (n as u32) < w.next {
-        return false;
-    }
-    coordinates::is_aligned(origin, m)
+    n <= s.len()
+        && w.pos <= s.len() - n
+        && w.next <= 8 * (n as u32)
+        && coordinates::is_aligned(w.origin, m)
 }
 
-// The next child of what is said to be a node.
-fn next_child(s: &[u8], m: u32, n: usize, w: Entered) -> NextChild
+// The place of the next child of what is said to be a node, or that none is left. Words that are no node's are refused.
+fn next_child(s: &[u8], m: u32, n: usize, w: Entered) -> Result<Option<Index>, ParseError>
     requires { Divides m × (n % 8 ≡ 0) × (n ≤ 4096) }
-    ensures { says_child result ≡ next_child s.now m n w }
+    ensures { says_answer result ≡ next_child s.now m n w }
 {
     if !is_entered(s, m, n, w) {
-        return NextChild::Refused;
+        return Err(ParseError::ForeignPlace);
     }
-    match masks::next_one(s, w.pos, n, Index(w.next)) {
-        NextOne::At(p) => NextChild::At(p),
-        NextOne::Nothing => NextChild::Nothing,
-    }
+    Ok(masks::next_one(s, w.pos, n, Index(w.next)))
 }
 
 // A leaf's block as a piece.
 fn leaf_piece(b: Block) -> Piece
     ensures { piece_of result ≡ leaf_piece b }
 {
-    let origin = b.origin;
-    let values = b.values;
     Piece {
         level: 0,
-        origin,
+        origin: b.origin,
         child: b.mask,
         value: b.mask,
-        values,
+        values: b.values,
     }
 }
 
@@ -143,57 +115,52 @@ fn leaf_at(
     p: Index,
     topology_pos: usize,
     block_pos: usize,
-) -> NextPiece
+) -> Result<Option<(Piece, Cursor)>, ParseError>
     requires { IsWidth c.width × (aligned 128 node4.origin ≡ true) × (p.0 < 4096) }
     ensures { says_piece s.now c result ≡ leaf_rest s.now c roots_left node5 node4.origin node4.pos p.0 (from4 s.now c roots_left node5 (beyond node4.origin node4.pos p.0)) topology_pos block_pos }
 {
-    let SpanField::Got(mask, q) = fields::read_bytes(s, topology_pos, 64) else {
-        return NextPiece::Refused(2);
-    };
-    let origin = node4.origin;
-    let leaf_origin = coordinates::offset_to_global_coord(p, 16, 8, origin);
+    let (mask, q) = fields::read_bytes(s, topology_pos, 64)?;
     let leaf = Leaf {
-        origin: leaf_origin,
+        origin: coordinates::offset_to_global_coord(p, 16, 8, node4.origin),
         mask: mask.start,
     };
-    match nodes::read_block(s, c, leaf, block_pos) {
-        BlockField::Refused(k) => NextPiece::Refused(k),
-        BlockField::Got(b, r) => {
-            let mut passed = node4;
-            passed.next = p.0 + 1;
-            let behind = Cursor {
-                depth: 2,
-                roots_left,
-                node5,
-                node4: passed,
-                topology_pos: q,
-                block_pos: r,
-            };
-            NextPiece::At(leaf_piece(b), behind)
-        }
-    }
+    let (b, r) = nodes::read_block(s, c, leaf, block_pos)?;
+    let passed = Entered {
+        next: p.0 + 1,
+        ..node4
+    };
+    let behind = Cursor {
+        depth: 2,
+        roots_left,
+        node5,
+        node4: passed,
+        topology_pos: q,
+        block_pos: r,
+    };
+    Ok(Some((leaf_piece(b), behind)))
 }
 
 // A node is left, and is the piece. Its header is read again here, so that a cursor need not hold it.
-fn leave(s: &[u8], c: Coding, level: u32, n: usize, w: Entered, behind: Cursor) -> NextPiece
+fn leave(
+    s: &[u8],
+    c: Coding,
+    level: u32,
+    n: usize,
+    w: Entered,
+    behind: Cursor,
+) -> Result<Option<(Piece, Cursor)>, ParseError>
     requires { IsWidth c.width × (n % 8 ≡ 0) × (n ≤ 4096) }
     ensures { says_piece s.now c result ≡ leaving s.now c level n w.origin w.pos behind (to_come s.now c behind) }
 {
-    match nodes::read_node_header(s, c, n, w.pos) {
-        NodeField::Refused(k) => NextPiece::Refused(k),
-        NodeField::Got(h, _) => {
-            let origin = w.origin;
-            let values = h.values;
-            let piece = Piece {
-                level,
-                origin,
-                child: h.child,
-                value: h.value,
-                values,
-            };
-            NextPiece::At(piece, behind)
-        }
-    }
+    let (h, _) = nodes::read_node_header(s, c, n, w.pos)?;
+    let piece = Piece {
+        level,
+        origin: w.origin,
+        child: h.child,
+        value: h.value,
+        values: h.values,
+    };
+    Ok(Some((piece, behind)))
 }
 
 // In a 4-node: its next leaf, or else the 4-node itself.
@@ -205,17 +172,18 @@ fn next_in_node4(
     node4: Entered,
     topology_pos: usize,
     block_pos: usize,
-) -> NextPiece
+) -> Result<Option<(Piece, Cursor)>, ParseError>
     requires { IsWidth c.width }
     ensures { says_piece s.now c result ≡ from4 s.now c roots_left node5 node4 topology_pos block_pos }
 {
-    match next_child(s, 128, 512, node4) {
-        NextChild::Refused => NextPiece::Refused(22),
-        NextChild::At(p) => leaf_at(s, c, roots_left, node5, node4, p, topology_pos, block_pos),
-        NextChild::Nothing => {
-            let mut behind = between_roots(roots_left, topology_pos, block_pos);
-            behind.depth = 1;
-            behind.node5 = node5;
+    match next_child(s, 128, 512, node4)? {
+        Some(p) => leaf_at(s, c, roots_left, node5, node4, p, topology_pos, block_pos),
+        None => {
+            let behind = Cursor {
+                depth: 1,
+                node5,
+                ..between_roots(roots_left, topology_pos, block_pos)
+            };
             leave(s, c, 1, 512, node4, behind)
         }
     }
@@ -230,25 +198,21 @@ fn node4_at(
     p: Index,
     topology_pos: usize,
     block_pos: usize,
-) -> NextPiece
+) -> Result<Option<(Piece, Cursor)>, ParseError>
     requires { IsWidth c.width × (aligned 4096 node5.origin ≡ true) × (p.0 < 32768) }
     ensures { says_piece s.now c result ≡ node4_rest s.now c roots_left node5.origin node5.pos p.0 (from5 s.now c roots_left (beyond node5.origin node5.pos p.0)) topology_pos block_pos }
 {
-    match nodes::read_node_header(s, c, 512, topology_pos) {
-        NodeField::Refused(k) => NextPiece::Refused(k),
-        NodeField::Got(_, q) => {
-            let origin = node5.origin;
-            let mut passed = node5;
-            passed.next = p.0 + 1;
-            let node4_origin = coordinates::offset_to_global_coord(p, 32, 128, origin);
-            let node4 = Entered {
-                origin: node4_origin,
-                pos: topology_pos,
-                next: 0,
-            };
-            next_in_node4(s, c, roots_left, passed, node4, q, block_pos)
-        }
-    }
+    let (_, q) = nodes::read_node_header(s, c, 512, topology_pos)?;
+    let passed = Entered {
+        next: p.0 + 1,
+        ..node5
+    };
+    let node4 = Entered {
+        origin: coordinates::offset_to_global_coord(p, 32, 128, node5.origin),
+        pos: topology_pos,
+        next: 0,
+    };
+    next_in_node4(s, c, roots_left, passed, node4, q, block_pos)
 }
 
 // In a 5-node: the first piece of its next 4-node, or else the 5-node itself.
@@ -259,14 +223,13 @@ fn next_in_node5(
     node5: Entered,
     topology_pos: usize,
     block_pos: usize,
-) -> NextPiece
+) -> Result<Option<(Piece, Cursor)>, ParseError>
     requires { IsWidth c.width }
     ensures { says_piece s.now c result ≡ from5 s.now c roots_left node5 topology_pos block_pos }
 {
-    match next_child(s, 4096, 4096, node5) {
-        NextChild::Refused => NextPiece::Refused(22),
-        NextChild::At(p) => node4_at(s, c, roots_left, node5, p, topology_pos, block_pos),
-        NextChild::Nothing => {
+    match next_child(s, 4096, 4096, node5)? {
+        Some(p) => node4_at(s, c, roots_left, node5, p, topology_pos, block_pos),
+        None => {
             let behind = between_roots(roots_left, topology_pos, block_pos);
             leave(s, c, 2, 4096, node5, behind)
         }
@@ -280,45 +243,47 @@ fn next_in_roots(
     roots_left: u32,
     topology_pos: usize,
     block_pos: usize,
-) -> NextPiece
+) -> Result<Option<(Piece, Cursor)>, ParseError>
     requires { IsWidth c.width }
     ensures { says_piece s.now c result ≡ roots_rest s.now c roots_left topology_pos block_pos }
 {
     if roots_left == 0 {
-        return NextPiece::End;
+        return Ok(None);
     }
-    let IVec3Field::Got(v, p) = fields::read_i_vec3(s, topology_pos) else {
-        return NextPiece::Refused(2);
+    let (v, p) = fields::read_i_vec3(s, topology_pos)?;
+    let (_, q) = nodes::read_node_header(s, c, 4096, p)?;
+    let node5 = Entered {
+        origin: coordinates::origin_of(v),
+        pos: p,
+        next: 0,
     };
-    match nodes::read_node_header(s, c, 4096, p) {
-        NodeField::Refused(k) => NextPiece::Refused(k),
-        NodeField::Got(_, q) => {
-            let origin = coordinates::origin_of(v);
-            let node5 = Entered {
-                origin,
-                pos: p,
-                next: 0,
-            };
-            next_in_node5(s, c, roots_left - 1, node5, q, block_pos)
-        }
-    }
+    next_in_node5(s, c, roots_left - 1, node5, q, block_pos)
 }
 
 // The next piece, and the cursor behind it. A cursor that no call gave gets pieces of this file or a refusal.
-pub fn next_piece(s: &[u8], c: Coding, cursor: Cursor) -> NextPiece
+pub fn next_piece(
+    s: &[u8],
+    c: Coding,
+    cursor: Cursor,
+) -> Result<Option<(Piece, Cursor)>, ParseError>
     requires { IsWidth c.width }
     ensures { says_piece s.now c result ≡ to_come s.now c cursor }
 {
     let roots_left = cursor.roots_left;
     let node5 = cursor.node5;
-    let node4 = cursor.node4;
     let topology_pos = cursor.topology_pos;
     let block_pos = cursor.block_pos;
-    if cursor.depth == 0 {
-        return next_in_roots(s, c, roots_left, topology_pos, block_pos);
+    match cursor.depth {
+        0 => next_in_roots(s, c, roots_left, topology_pos, block_pos),
+        1 => next_in_node5(s, c, roots_left, node5, topology_pos, block_pos),
+        _ => next_in_node4(
+            s,
+            c,
+            roots_left,
+            node5,
+            cursor.node4,
+            topology_pos,
+            block_pos,
+        ),
     }
-    if cursor.depth == 1 {
-        return next_in_node5(s, c, roots_left, node5, topology_pos, block_pos);
-    }
-    next_in_node4(s, c, roots_left, node5, node4, topology_pos, block_pos)
 }

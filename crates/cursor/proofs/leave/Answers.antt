@@ -1,16 +1,13 @@
 -- The node's header is refused, or it gives the piece, behind which comes what the cursor handed over says.
 use mathlib.Core.Path.{refl}
-use Rattle.fields.proofs.Laws.{told}
-use Rattle.nodes.specs.Inner.{says_node}
 use Rattle.cursor.specs.Inner.{leaving}
-use Rattle.cursor.proofs.Laws.{after-got, after-fails}
+use Rattle.cursor.proofs.Laws.{handed-piece, after-got, after-fails}
 use Rattle.cursor.proofs.leave.Goals as goal
 
-pub returns-in-Refused : goal.returns-in-Refused
+pub returns-in_err-h : goal.returns-in_err-h
 unfolding leaving
-returns-in-Refused c = after-fails _ (told says_node c.in-Refused.is c.read_node_header.ensures)
+returns-in_err-h c = handed-piece _ _ _ _ c.from_residual.ensures.1 (after-fails _ c.in_err-h.ensures)
 
-pub returns-in-Got : goal.returns-in-Got
+pub returns : goal.returns
 unfolding leaving
-returns-in-Got c =
-    after-got _ (told says_node c.in-Got.is c.read_node_header.ensures) refl
+returns c = after-got _ c.in_ok-h.ensures refl

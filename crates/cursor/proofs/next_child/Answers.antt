@@ -1,8 +1,7 @@
 -- Words that are a node's have their mask in the file, which is what the search for the next one needs.
-use mathlib.Core.Option.{some}
 use mathlib.Core.Path.{refl, sym, ap}
-use Rattle.fields.proofs.Laws.{told, is_true, is_false, when_true, when_false}
-use Rattle.masks.specs.Inner.{says_next}
+use Rattle.fields.specs.Answer.{gives}
+use Rattle.fields.proofs.Laws.{is_true, is_false, when_true, when_false}
 use Rattle.cursor.specs.Inner.{next_child}
 use Rattle.cursor.proofs.Laws.{entered-back}
 use Rattle.cursor.proofs.next_child.Goals as goal
@@ -17,12 +16,6 @@ next_one-requires c =
     let node = entered-back _ _ _ _ (sym (is_true c.if-not-is_entered.false c.is_entered.ensures)) in
     (record { within = node.within; words = pre.1; small = pre.2 }, node.places)
 
-pub returns-in-At : goal.returns-in-At
+pub returns : goal.returns
 unfolding next_child
-returns-in-At c =
-    when_true _ (is_true c.if-not-is_entered.false c.is_entered.ensures) (ap some (told says_next c.in-At.is c.next_one.ensures))
-
-pub returns-in-Nothing : goal.returns-in-Nothing
-unfolding next_child
-returns-in-Nothing c =
-    when_true _ (is_true c.if-not-is_entered.false c.is_entered.ensures) (ap some (told says_next c.in-Nothing.is c.next_one.ensures))
+returns c = when_true _ (is_true c.if-not-is_entered.false c.is_entered.ensures) (ap gives c.next_one.ensures)

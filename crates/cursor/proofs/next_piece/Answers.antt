@@ -1,22 +1,19 @@
 -- What is to come is defined by the same two tests of the depth.
 use borrow.Author.Tests.{eq-eqb, ne_eqb}
 use mathlib.Core.Path.{sym}
+use native.Mathlib.Omega.{arith}
 use Rattle.fields.proofs.Laws.{when_true, when_false}
 use Rattle.cursor.specs.Inner.{to_come}
 use Rattle.cursor.proofs.next_piece.Goals as goal
 
-pub returns-then-cursor-eq0 : goal.returns-then-cursor-eq0
+pub returns-in-0 : goal.returns-in-0
 unfolding to_come
-returns-then-cursor-eq0 c = when_true _ (sym (eq-eqb _ _ c.if-cursor-eq0.true)) c.next_in_roots.ensures
+returns-in-0 c = when_true _ (sym (eq-eqb _ _ c.in-0.is)) c.next_in_roots.ensures
 
-pub returns-then-cursor-eq1 : goal.returns-then-cursor-eq1
+pub returns-in-1 : goal.returns-in-1
 unfolding to_come
-returns-then-cursor-eq1 c =
-    when_false _ (sym (ne_eqb _ _ c.if-cursor-eq0.false))
-    (when_true _ (sym (eq-eqb _ _ c.if-cursor-eq1.true)) c.next_in_node5.ensures)
+returns-in-1 c = when_false _ (sym (ne_eqb _ _ (omega arith))) (when_true _ (sym (eq-eqb _ _ c.in-1.is)) c.next_in_node5.ensures)
 
-pub returns : goal.returns
+pub returns-in_default : goal.returns-in_default
 unfolding to_come
-returns c =
-    when_false _ (sym (ne_eqb _ _ c.if-cursor-eq0.false))
-    (when_false _ (sym (ne_eqb _ _ c.if-cursor-eq1.false)) c.next_in_node4.ensures)
+returns-in_default c = when_false _ (sym (ne_eqb _ _ (omega arith))) (when_false _ (sym (ne_eqb _ _ (omega arith))) c.next_in_node4.ensures)
