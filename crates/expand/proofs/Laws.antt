@@ -18,7 +18,7 @@ use Rattle.masks.proofs.Words.{count-part}
 use Rattle.masks.proofs.Ones.{complement}
 use Rattle.forms.specs.declared.Coding.{Coding}
 use Rattle.forms.specs.declared.Inactives.{Inactives}
-use Rattle.forms.specs.declared.Selection.TheVariants.{At, Nothing}
+use Rattle.std.proofs.Common.{Some, None}
 use Rattle.forms.specs.declared.Stored.TheVariants.{Every, Active, Childless}
 use Rattle.runs.specs.Runs.{is_stored, number_of}
 use Rattle.runs.specs.Inner.{Held}
@@ -55,11 +55,11 @@ module _ (s : List ℕ) (at p : ℕ) where
       bits = λ q l. complement 64 q (18446744073709551615 - w) w (omega (arith, h.below)) l ∙ ap not ((rw e at h).bits q l);
     }
 
-    pub at-word : IsWord (is_selected s (At at)) p w
+    pub at-word : IsWord (is_selected s (Some at)) p w
     unfolding is_selected
     at-word = rw e at h
 
-  pub no_word : IsWord (is_selected s Nothing) p 0
+  pub no_word : IsWord (is_selected s None) p 0
   unfolding is_selected
   no_word = record { below = omega arith; bits = λ q l. no_digit q }
 

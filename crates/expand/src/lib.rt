@@ -11,7 +11,7 @@ ghost use Rattle.runs.specs.Inner.{Held};
 ghost use Rattle.values.specs.Values.{is_selected, values_from, leaf_values};
 ghost use Rattle.expand.specs.Inner.{ZerosHeld};
 
-use forms::{Coding, Inactives, Selection, Stored};
+use forms::{Coding, Inactives, Stored};
 use runs::Values;
 
 // Which of the 64 places from p on are stored, as bits. A leaf has no child mask; its value mask stands in, as in the definitions.
@@ -20,20 +20,20 @@ fn stored_word(s: &[u8], stored: Stored, value: usize, p: usize) -> u64
     ensures { IsWord (is_stored s.now stored value value) p result }
 {
     match stored {
-        Stored::Every => 0xffff_ffff_ffff_ffff,
+        Stored::Every => u64::MAX,
         Stored::Active => masks::word(s, value, 64, p / 8),
-        Stored::Childless => 0xffff_ffff_ffff_ffff - masks::word(s, value, 64, p / 8),
+        Stored::Childless => !masks::word(s, value, 64, p / 8),
     }
 }
 
 // Which of the 64 places from p on are selected, as bits.
-fn selection_word(s: &[u8], selection: Selection, p: usize) -> u64
+fn selection_word(s: &[u8], selection: Option<usize>, p: usize) -> u64
     requires { SelectionHeld s.now 64 selection × (p % 64 ≡ 0) × (p < 512) }
     ensures { IsWord (is_selected s.now selection) p result }
 {
     match selection {
-        Selection::At(at) => masks::word(s, at, 64, p / 8),
-        Selection::Nothing => 0,
+        Some(at) => masks::word(s, at, 64, p / 8),
+        None => 0,
     }
 }
 
@@ -43,9 +43,8 @@ fn fill_inactive(s: &[u8], v: Inactives, p: usize, ones: u64, slots: &mut [u32])
     requires { SelectionHeld s.now 64 v.selection × (p % 64 ≡ 0) × (p < 512) × (length slots.old ≡ 64) }
     ensures { ZerosHeld s.now v p ones slots.new }
 {
-    let selection = v.selection;
-    let w = selection_word(s, selection, p);
-    if w == 0xffff_ffff_ffff_ffff - ones {
+    let w = selection_word(s, v.selection, p);
+    if w == !ones {
         batch::fill_same(v.second, 0, slots);
         return;
     }
@@ -66,14 +65,12 @@ fn fill_word(
     requires { Held s.now c 64 value value v × (p % 64 ≡ 0) × (p < 512) × (k ≡ number_of s.now v.stored value value p) × (length slots.old ≡ 64) }
     ensures { (slots.new ≡ values_from s.now c value value v p 64) × (result ≡ number_of s.now v.stored value value (p + 64)) }
 {
-    let stored = v.stored;
-    let ones = stored_word(s, stored, value, p);
-    if ones == 0xffff_ffff_ffff_ffff {
+    let ones = stored_word(s, v.stored, value, p);
+    if ones == u64::MAX {
         batch::fill_values(s, c, v.start, k, 0, slots);
         return k + 64;
     }
-    let inactives = v.inactives;
-    fill_inactive(s, inactives, p, ones, slots);
+    fill_inactive(s, v.inactives, p, ones, slots);
     batch::put_stored(s, c, v.start, k, ones, slots)
 }
 
@@ -82,11 +79,9 @@ pub fn fill_leaf(s: &[u8], c: Coding, value: usize, v: Values, slots: &mut [u32]
     requires { Held s.now c 64 value value v × (length slots.old ≡ 512) }
     ensures { slots.new ≡ leaf_values s.now c value v }
 {
-    let mut k: usize = 0;
-    let mut p: usize = 0;
-    while p < 512 {
-        let end = p + 64;
-        k = fill_word(s, c, value, v, p, k, &mut slots[p..end]);
-        p = end;
+    let mut k = 0;
+    for i in 0..8 {
+        let p = 64 * i;
+        k = fill_word(s, c, value, v, p, k, &mut slots[p..p + 64]);
     }
 }

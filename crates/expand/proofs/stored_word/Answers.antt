@@ -3,15 +3,6 @@ use native.Mathlib.Omega.{arith}
 use Rattle.expand.proofs.Laws.{every-word, active-word, childless-word}
 use Rattle.expand.proofs.stored_word.Goals as goal
 
-pub word-requires : goal.word-requires
-word-requires c = (c.requires.0, omega arith, omega arith)
-
-pub word-requires-in-Childless : goal.word-requires-in-Childless
-word-requires-in-Childless c = (c.requires.0, omega arith, omega arith)
-
-pub overflow_sub-result : goal.overflow_sub-result
-overflow_sub-result c = omega (arith, c.word-in-Childless.ensures.below)
-
 pub returns-in-Every : goal.returns-in-Every
 returns-in-Every c = rw c.in-Every.is (every-word _ _ _)
 
