@@ -7,19 +7,6 @@ use Rattle.tree.specs.Active.{edge_of}
 use Rattle.coordinates.specs.Coordinates.{places}
 use Rattle.slots.specs.Inner.{mask_bytes}
 
-pub past-levels : (l : ℕ) → 2 < l → edge_of l ≡ 0
-past-levels zero h = absurd (omega arith)
-past-levels (suc zero) h = absurd (omega arith)
-past-levels (suc (suc zero)) h = absurd (omega arith)
-past-levels (suc (suc (suc n))) h = refl
-
--- a level with places is one of the three
-pub last-level : (l p : ℕ) → (l ≡ 0 → ⊥) → (l ≡ 1 → ⊥) → p < places (edge_of l) → l ≡ 2
-last-level zero p a b h = absurd (a refl)
-last-level (suc zero) p a b h = absurd (b refl)
-last-level (suc (suc zero)) p a b h = refl
-last-level (suc (suc (suc n))) p a b h = absurd (omega arith)
-
 -- masks are whole words, and have a bit for each place
 pub record Masked (l : ℕ) : Type 0 where
   pub words : mask_bytes l % 8 ≡ 0

@@ -6,18 +6,11 @@ use native.Mathlib.Nat.{suc-mul}
 use native.Mathlib.Omega.{arith}
 use lib.ListN.{length, length-append}
 use Rattle.forms.specs.declared.Coding.{Coding}
-use Rattle.coordinates.specs.declared.GlobalCoord.{GlobalCoord}
 use Rattle.batch.specs.Inner.{ranged, numbered, InFile}
 use Rattle.slots.specs.Slots.{Slots, put, slots_of, laid_from}
 use Rattle.slots.specs.Inner.{Readable, record_of, corner_at, run_of, axis_of}
 use Rattle.slots.specs.declared.Inside.{Inside}
 use Rattle.slots.proofs.Laws.{in-room, laid-append}
-
--- an axis that is neither x nor y
-pub axis-last : (o : GlobalCoord) (n : ℕ) → (n ≡ 0 → ⊥) → (n ≡ 1 → ⊥) → o.2 ≡ axis_of o n
-axis-last o zero a b = absurd (a refl)
-axis-last o (suc zero) a b = absurd (b refl)
-axis-last o (suc (suc n)) a b = refl
 
 module _ (s : List ℕ) (c : Coding) (w : Inside) where
   pub length_run : (n : ℕ) → length (run_of s c w n) ≡ n

@@ -42,13 +42,11 @@ pub fn corner(level: u32, origin: GlobalCoord, p: Index) -> GlobalCoord
     requires { (p.0 < places (edge_of level)) × (aligned (edge_of level * side_of level) origin ≡ true) }
     ensures { result ≡ global_of (edge_of level) (side_of level) origin p }
 {
-    if level == 0 {
-        return coordinates::offset_to_global_coord(p, 8, 1, origin);
+    match level {
+        0 => coordinates::offset_to_global_coord(p, 8, 1, origin),
+        1 => coordinates::offset_to_global_coord(p, 16, 8, origin),
+        _ => coordinates::offset_to_global_coord(p, 32, 128, origin),
     }
-    if level == 1 {
-        return coordinates::offset_to_global_coord(p, 16, 8, origin);
-    }
-    coordinates::offset_to_global_coord(p, 32, 128, origin)
 }
 
 // A record into slot i of each slice.
@@ -66,12 +64,9 @@ pub fn put_record(
     requires { Room (i + 1) (slots_of x.old y.old z.old level.old value.old) }
     ensures { slots_of x.new y.new z.new level.new value.new ≡ put (slots_of x.old y.old z.old level.old value.old) i (record_of o l v) }
 {
-    let ox = o.0;
-    let oy = o.1;
-    let oz = o.2;
-    x[i] = ox;
-    y[i] = oy;
-    z[i] = oz;
+    x[i] = o.0;
+    y[i] = o.1;
+    z[i] = o.2;
     level[i] = l;
     value[i] = v;
 }
@@ -92,11 +87,8 @@ fn fill_axis(w: Inside, axis: u32, slot: usize, x: &mut [i32])
     requires { (w.from + 64 ≤ places (edge_of w.level)) × (aligned (edge_of w.level * side_of w.level) w.origin ≡ true) × (slot + 64 ≤ length x.old) }
     ensures { x.new ≡ ranged x.old slot 64 (λ k. axis_of (corner_at w k) axis) }
 {
-    let mut k: usize = 0;
-    while k < 64 {
-        let i = slot + k;
-        x[i] = along(corner(w.level, w.origin, Index(w.from + k as u32)), axis);
-        k = k + 1;
+    for k in 0..64 {
+        x[slot + k] = along(corner(w.level, w.origin, Index(w.from + k as u32)), axis);
     }
 }
 
