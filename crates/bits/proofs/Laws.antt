@@ -281,8 +281,8 @@ pub record_is :
 unfolding record_here
 record_is s c w e d = λ k. record_of (e k) w.level (d k)
 
-pub run_is : {a b : Inside} {i : ℕ} {x y : Bool} → a ≡ b → x ≡ y → ◌≡◌ {A = Run} (record { inside = a; filled = i; whole = x }) (record { inside = b; filled = i; whole = y })
-run_is {i = i} e d = λ k. record { inside = e k; filled = i; whole = d k }
+pub run_is : {a b : Inside} {i j : ℕ} {x y : Bool} → a ≡ b → i ≡ j → x ≡ y → ◌≡◌ {A = Run} (record { inside = a; filled = i; whole = x }) (record { inside = b; filled = j; whole = y })
+run_is e f d = λ k. record { inside = e k; filled = f k; whole = d k }
 
 -- A part h₁ is filled in.
 module _ {i : ℕ} {h₁ : Handed} {t t' : Slots} {r : Run} (f : Fills i h₁ t t' r) where

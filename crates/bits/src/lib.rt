@@ -35,9 +35,9 @@ fn count_low(b: u64, z: u32) -> u32
     ensures { (result ≡ count_below (digit b) z) × (result ≤ z) }
 {
     if z == 64 {
-        return u64::count_ones(b);
+        return b.count_ones();
     }
-    u64::count_ones(masks::low_bits(b, z as usize))
+    masks::low_bits(b, z as usize).count_ones()
 }
 
 // How many of the next z places are stored, none of them being active; b has their bits of the child mask.
@@ -68,10 +68,9 @@ fn to_active(b: Bits) -> Bits
     requires { SumsFit b × (b.ones < 2 ^ b.left) × (b.ones ≡ 0 → ⊥) }
     ensures { result ≡ shifted b (count_trailing_zeros 64 b.ones) }
 {
-    let z = u64::trailing_zeros(b.ones);
-    let inside = pass(b, z);
+    let z = b.ones.trailing_zeros();
     Bits {
-        inside,
+        inside: pass(b, z),
         left: b.left - z,
         ones: masks::high_bits(b.ones, z as usize),
         children: masks::high_bits(b.children, z as usize),
@@ -113,19 +112,22 @@ pub fn fill_any(
     ensures { Fills slot (hand_word s.now c (limit - slot) word) (slots_of x.old y.old z.old level.old value.old) (slots_of x.new y.new z.new level.new value.new) result }
 {
     let mut b = word;
-    let mut at = slot;
-    let mut whole = true;
-    while at < limit {
+    for at in slot..limit {
         if b.ones == 0 {
-            let w = pass(b, b.left);
-            b.inside = w;
-            break;
+            return Run {
+                inside: pass(b, b.left),
+                filled: at,
+                whole: true,
+            };
         }
         b = to_active(b);
         let w = b.inside;
         if room <= w.number {
-            whole = false;
-            break;
+            return Run {
+                inside: w,
+                filled: at,
+                whole: false,
+            };
         }
         let v = values::stored_value(s, c, w.start, w.number);
         slots::put_record(
@@ -140,13 +142,11 @@ pub fn fill_any(
             value,
         );
         b = past_active(b);
-        at = at + 1;
     }
-    let inside = b.inside;
     Run {
-        inside,
-        filled: at,
-        whole,
+        inside: b.inside,
+        filled: slot.max(limit),
+        whole: true,
     }
 }
 
@@ -193,8 +193,7 @@ pub fn fill_ones(
     let w = word.inside;
     let mut ones = word.ones;
     let mut p: u32 = 0;
-    let mut i = slot;
-    while i < limit {
+    for i in slot..limit {
         if ones == 0 {
             return Run {
                 inside: stand(w, word.left, i - slot),
@@ -202,7 +201,7 @@ pub fn fill_ones(
                 whole: true,
             };
         }
-        let q = u64::trailing_zeros(ones);
+        let q = ones.trailing_zeros();
         let v = values::stored_value(s, c, w.start, number_behind(w, q, i - slot));
         slots::put_record(
             i,
@@ -217,11 +216,11 @@ pub fn fill_ones(
         );
         ones = masks::past_lowest(ones);
         p = q + 1;
-        i = i + 1;
     }
+    let filled = slot.max(limit);
     Run {
-        inside: stand(w, p, i - slot),
-        filled: i,
+        inside: stand(w, p, filled - slot),
+        filled,
         whole: true,
     }
 }

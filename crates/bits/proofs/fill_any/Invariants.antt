@@ -1,7 +1,5 @@
 -- The invariant: what the word behind the places passed hands out, after what was handed out, is what the whole word does.
-use mathlib.Core.Path.{◌≡◌}
-use mathlib.Core.Bool.{true}
-use Prim.Native.Nat.{◌-◌}
+use Prim.Native.Nat.{◌-◌, ◌≤◌, max}
 use Rattle.slots.specs.Slots.{slots_of}
 use Rattle.slots.specs.Inner.{Room, Readable}
 use Rattle.bits.specs.Inner.{hand_word, InWord}
@@ -11,8 +9,5 @@ use Rattle.bits.proofs.fill_any.Given as goal
 
 abbrev pub invariant-loop-at : goal.invariant-loop-at
 invariant-loop-at l =
-    Readable l.s l.c l.room l.b.inside × InWord l.s l.b × Room l.limit (slots_of l.x l.y l.z l.level l.value) × Same (slots_of l.x l.y l.z l.level l.value) (slots_of l.initial.x l.initial.y l.initial.z l.initial.level l.initial.value) × (l.whole ≡ true)
-    × Going l.at (hand_word l.s l.c (l.limit - l.at) l.b) (slots_of l.x l.y l.z l.level l.value) l.initial.at (hand_word l.s l.c (l.limit - l.initial.at) l.initial.b) (slots_of l.initial.x l.initial.y l.initial.z l.initial.level l.initial.value)
-
-abbrev pub decreases-loop-at : goal.decreases-loop-at
-decreases-loop-at l = l.limit - l.at
+    (l.at ≤ max l.slot l.limit) × Readable l.s l.c l.room l.b.inside × InWord l.s l.b × Room l.limit (slots_of l.x l.y l.z l.level l.value) × Same (slots_of l.x l.y l.z l.level l.value) (slots_of l.initial.x l.initial.y l.initial.z l.initial.level l.initial.value)
+    × Going l.at (hand_word l.s l.c (l.limit - l.at) l.b) (slots_of l.x l.y l.z l.level l.value) l.slot (hand_word l.s l.c (l.limit - l.slot) l.initial.b) (slots_of l.initial.x l.initial.y l.initial.z l.initial.level l.initial.value)

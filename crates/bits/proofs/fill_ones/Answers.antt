@@ -54,7 +54,7 @@ stand-requires c = (c.requires.0.number, leaf-places _ _ _ _ c.requires.0 c.requ
 
 pub returns-then-ones-eq0 : goal.returns-then-ones-eq0
 returns-then-ones-eq0 c =
-    ends c.loop-i.invariant.6 (done _ _ _ c.args.word c.requires.0 c.requires.1 c.requires.2 c.loop-i.p _ c.loop-i.invariant.2 c.loop-i.invariant.0 _ _ c.loop-i-test.true (sym c.loop-i.invariant.3 ∙ c.if-ones-eq0.true)) (run_is c.stand.ensures refl)
+    ends c.loop-i.invariant.6 (done _ _ _ c.args.word c.requires.0 c.requires.1 c.requires.2 c.loop-i.p _ c.loop-i.invariant.2 c.loop-i.invariant.0 _ _ c.loop-i-test.true (sym c.loop-i.invariant.3 ∙ c.if-ones-eq0.true)) (run_is c.stand.ensures refl refl)
 
 pub number_behind-requires : goal.number_behind-requires
 number_behind-requires c =
@@ -91,31 +91,28 @@ past_lowest-ones-requires c =
 pub overflow_add-p : goal.overflow_add-p
 overflow_add-p c = let t = (goal.at.overflow_add-p c).Else-ones-eq0 in omega (arith, inside t, few t)
 
-pub overflow_add-i : goal.overflow_add-i
-overflow_add-i c = omega (arith, c.loop-i-test.true, c.ranges.limit)
-
-pub loop-i-smaller : goal.loop-i-smaller
-loop-i-smaller c = omega (arith, c.loop-i-test.true)
-
 pub loop-i-preserved : goal.loop-i-preserved
 loop-i-preserved c =
     let t = (goal.at.loop-i-preserved c).Else-ones-eq0 in
     let i = c.loop-i in
     let w = c.put_record.ensures in (
       omega (arith, inside t),
-      omega (arith, i.invariant.1),
-      omega (arith, on t, i.invariant.2, i.invariant.1),
+      omega (arith, c.loop-i-test.true),
+      omega (arith, on t, i.invariant.2),
       c.past_lowest-ones.ensures.0 ∙ ap (λ (x : ℕ). ones_past x (q t + 1)) i.invariant.3 ∙ past-on (b t).ones (p t) (q t + 1) (omega (arith, on t)),
       put-room _ _ _ _ w i.invariant.4,
       put_same _ _ _ _ w i.invariant.5,
       goes i.invariant.6 (one_more _ _ _ (b t) c.requires.0 c.requires.1 c.requires.2 (p t) (k t) i.invariant.2 i.invariant.0 (some-set t) _ i.i (q t) _
-          c.loop-i-test.true (reached t) (omega (arith, i.invariant.1)) c.corner.ensures c.number_behind.ensures c.stored_value-v.ensures) w,
+          c.loop-i-test.true (reached t) (omega arith) c.corner.ensures c.number_behind.ensures c.stored_value-v.ensures) w,
     )
 
 pub stand-requires-2 : goal.stand-requires-2
 stand-requires-2 c =
     let few = leaf-places _ _ _ _ c.requires.0 c.requires.1 c.requires.2 in
-    (c.requires.0.number, omega (arith, few, c.loop-i.invariant.0), c.loop-i.invariant.2)
+    let e : c.max-filled.result ≡ c.loop-i.i = omega (arith, c.max-filled.ensures, c.loop-i.invariant.1, c.loop-i-test.false, c.loop-i.auto.i) in
+    (c.requires.0.number, omega (arith, few, c.loop-i.invariant.0), rw e c.loop-i.invariant.2)
 
 pub returns : goal.returns
-returns c = ends c.loop-i.invariant.6 (hand-full _ _ _ _ _ _ (omega (arith, c.loop-i-test.false))) (run_is c.stand-2.ensures refl)
+returns c =
+    let e : c.max-filled.result ≡ c.loop-i.i = omega (arith, c.max-filled.ensures, c.loop-i.invariant.1, c.loop-i-test.false, c.loop-i.auto.i) in
+    ends c.loop-i.invariant.6 (hand-full _ _ _ _ _ _ (omega (arith, c.loop-i-test.false))) (run_is (rw e at c.stand-2.ensures) e refl)

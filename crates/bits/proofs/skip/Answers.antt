@@ -5,10 +5,6 @@ use Rattle.fields.specs.Parse.{when}
 use Rattle.bits.specs.Inner.{skipped}
 use Rattle.bits.proofs.skip.Goals as goal
 
-pub overflow_sub-result : goal.overflow_sub-result
-unfolding skipped when
-overflow_sub-result c = omega (arith, c.count_low.ensures.1)
-
 pub returns-in-0 : goal.returns-in-0
 unfolding skipped when
 returns-in-0 c = (rw c.in-0.is, omega arith)

@@ -16,8 +16,8 @@ inside b p = inside-word b.left b.ones p.1 (lt_of_lt_of_le p.1 (pow_mono p.0.wor
 small : (b : Bits) → SumsFit b × (b.ones < 2 ^ b.left) × (b.ones ≡ 0 → ⊥) → count_trailing_zeros 64 b.ones < 64
 small b p = omega (arith, inside b p, p.0.word)
 
-pub pass-inside-requires : goal.pass-inside-requires
-pass-inside-requires c = let p = c.requires in (omega (arith, inside c.args.b p), p.0)
+pub pass-requires : goal.pass-requires
+pass-requires c = let p = c.requires in (omega (arith, inside c.args.b p), p.0)
 
 pub overflow_sub-result : goal.overflow_sub-result
 overflow_sub-result c = omega (arith, inside _ c.requires)
@@ -37,4 +37,4 @@ high_bits-requires-2 c = small _ c.requires
 pub returns : goal.returns
 returns c =
     let a = c.args in
-    rw (c.pass-inside.ensures, c.high_bits.ensures, c.high_bits-2.ensures)
+    rw (c.pass.ensures, c.high_bits.ensures, c.high_bits-2.ensures)
