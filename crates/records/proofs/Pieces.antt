@@ -29,14 +29,6 @@ module _ (s : List ℕ) (w : Inside) where
   unfolding is_inside
   no-value-mask h = rw (lt-leb _ _ h)
 
-  pub no-child-mask : w.value_mask + bytes ≤ length s → length s < w.child_mask + bytes → false ≡ is_inside s w
-  unfolding is_inside
-  no-child-mask a h = rw (le-leb _ _ a, lt-leb _ _ h)
-
-  pub no_number : w.value_mask + bytes ≤ length s → w.child_mask + bytes ≤ length s → w.from < w.number → false ≡ is_inside s w
-  unfolding is_inside
-  no_number a b h = rw (le-leb _ _ a, le-leb _ _ b, lt-leb _ _ h)
-
   pub by-origin :
       {t : Bool} → w.value_mask + bytes ≤ length s → w.child_mask + bytes ≤ length s → w.number ≤ w.from → t ≡ aligned (edge_of w.level * side_of w.level) w.origin → t ≡ is_inside s w
   unfolding is_inside

@@ -1,7 +1,7 @@
 // Document 01, section 7: the records of a piece, from where a walk stands in it, into five lent slices.
 #![tactic(auto)]
 
-ghost use Rattle.std.specs.Prelude.{◌≡◌, ◌-◌, ◌*◌, ◌%◌, ◌<◌};
+ghost use Rattle.std.specs.Prelude.{◌≡◌, ◌+◌, ◌-◌, ◌*◌, ◌%◌, ◌<◌, leb};
 ghost use Rattle.coordinates.specs.Inner.{Divides};
 ghost use Rattle.half.specs.Inner.{IsWidth};
 ghost use Rattle.tree.specs.Active.{side_of, edge_of};
@@ -14,46 +14,25 @@ use bits::{Bits, Run};
 use forms::Coding;
 use slots::Inside;
 
+// Whether n more than a number are no more than another. No sum that could wrap is formed.
+fn fits(a: usize, n: usize, most: usize) -> bool
+    ensures { result ≡ leb (a + n) most }
+{
+    n <= most && a <= most - n
+}
+
 // Whether a word's places are a leaf's, stored all or where active, with values in the file.
 fn is_leaf(b: Bits, room: usize) -> bool
     ensures { result ≡ is_leaf b room }
 {
-    if b.inside.level != 0 {
-        return false;
-    }
-    if 1 < b.inside.stored {
-        return false;
-    }
-    let left = b.left as usize;
-    if room < left {
-        return false;
-    }
-    if room - left < b.inside.number {
-        return false;
-    }
-    true
+    b.inside.level == 0 && b.inside.stored <= 1 && fits(b.inside.number, b.left as usize, room)
 }
 
 // Whether all 64 places of a word are active, with slots and values for them.
 fn is_full(b: Bits, room: usize, slot: usize, limit: usize) -> bool
     ensures { result ≡ is_full b room slot limit }
 {
-    if b.ones != 0xffff_ffff_ffff_ffff {
-        return false;
-    }
-    if limit < 64 {
-        return false;
-    }
-    if limit - 64 < slot {
-        return false;
-    }
-    if room < 64 {
-        return false;
-    }
-    if room - 64 < b.inside.number {
-        return false;
-    }
-    true
+    b.ones == u64::MAX && fits(slot, 64, limit) && fits(b.inside.number, 64, room)
 }
 
 // The records of a word's places into the slots from `slot` on, no further than `limit`. Full words stand apart, of which a dense cloud has many, and
@@ -75,11 +54,10 @@ fn fill_word(
     ensures { Fills slot (hand_word s.now c (limit - slot) word) (slots_of x.old y.old z.old level.old value.old) (slots_of x.new y.new z.new level.new value.new) result }
 {
     if is_full(word, room, slot, limit) {
-        let w = word.inside;
-        slots::fill_full(s, c, room, w, slot, x, y, z, level, value);
-        let mut inside = w;
-        inside.from = inside.from + 64;
-        inside.number = inside.number + 64;
+        let mut inside = word.inside;
+        slots::fill_full(s, c, room, inside, slot, x, y, z, level, value);
+        inside.from += 64;
+        inside.number += 64;
         return Run {
             inside,
             filled: slot + 64,
@@ -131,17 +109,15 @@ fn fill_words(
         filled: slot,
         whole: true,
     };
-    let mut i = w.from as usize / 64 * 8;
-    while i < n {
+    for _word in w.from as usize / 64..n / 8 {
         if limit <= t.filled {
             break;
         }
-        let inside = t.inside;
         t = fill_word(
             s,
             c,
             room,
-            word_at(s, n, inside),
+            word_at(s, n, t.inside),
             t.filled,
             limit,
             x,
@@ -153,7 +129,6 @@ fn fill_words(
         if !t.whole {
             break;
         }
-        i = i + 8;
     }
     t
 }
@@ -163,13 +138,11 @@ fn span(level: u32) -> u32
     requires { level < 3 }
     ensures { (result ≡ edge_of level * side_of level) × Divides result }
 {
-    if level == 0 {
-        return 8;
+    match level {
+        0 => 8,
+        1 => 128,
+        _ => 4096,
     }
-    if level == 1 {
-        return 128;
-    }
-    4096
 }
 
 // Whether words can be those of a walk in a piece, whose masks have n bytes.
@@ -177,20 +150,10 @@ pub fn is_inside(s: &[u8], n: usize, w: Inside) -> bool
     requires { (n ≡ mask_bytes w.level) × (w.level < 3) }
     ensures { result ≡ is_inside s.now w }
 {
-    let origin = w.origin;
-    if s.len() < n {
-        return false;
-    }
-    if s.len() - n < w.value_mask {
-        return false;
-    }
-    if s.len() - n < w.child_mask {
-        return false;
-    }
-    if (w.from as usize) < w.number {
-        return false;
-    }
-    coordinates::is_aligned(origin, span(w.level))
+    fits(w.value_mask, n, s.len())
+        && fits(w.child_mask, n, s.len())
+        && w.number <= w.from as usize
+        && coordinates::is_aligned(w.origin, span(w.level))
 }
 
 // The records of the places that are left of a piece into the slots from `slot` on, no further than `limit`. Words that are no walk's in a piece
