@@ -2,10 +2,11 @@
 use mathlib.Core.Path.{◌≡◌, refl, sym, ap, ◌∙◌}
 use mathlib.Core.Bool.{Bool}
 use mathlib.Core.List.{List}
-use mathlib.Core.Option.{none, some}
 use Prim.Native.Nat.{ℕ, zero, suc, ◌+◌, ◌-◌, ◌*◌, ◌≤◌, ◌<◌}
 use native.Mathlib.Numerals.{add-one}
 use native.Mathlib.Omega.{arith}
+use Rattle.std.proofs.Common.{None, Some}
+use Rattle.coordinates.specs.declared.Index.{Index}
 use Rattle.masks.specs.Masks.{mask_bit, count_below}
 use Rattle.masks.specs.Inner.{IsMask, next_one}
 use Rattle.masks.proofs.Laws.{next-lt, next-from, next_one_lem, next-count, next-none-count, count-suc-one, count-le}
@@ -19,21 +20,21 @@ use Rattle.nth.specs.Inner.{stored_of, IsOne, HasOne, BehindOne}
 -- Of n places, p is reached, and so many ones are left to pass before that with the number k.
 module _ (f : ℕ → Bool) (n p left k : ℕ) (reached : count_below f p + left ≡ k) where
   -- there is one more, so the search does not end here
-  pub one-missing : p ≤ n → k < count_below f n → none ≡ next_one f n p → ⊥
+  pub one-missing : p ≤ n → k < count_below f n → None ≡ next_one f n p → ⊥
   one-missing l h e = omega (arith, reached, h, next-none-count f n p l (sym e))
 
-  module _ (q : ℕ) (e : some q ≡ next_one f n p) where
-    pub next-below : q < n
+  module _ (q : Index) (e : Some q ≡ next_one f n p) where
+    pub next-below : q.0 < n
     next-below = next-lt f n p q (sym e)
 
-    pub next-behind : p ≤ q
+    pub next-behind : p ≤ q.0
     next-behind = next-from f n p q (sym e)
 
-    pub one-here : left ≡ 0 → IsOne f n k q
+    pub one-here : left ≡ 0 → IsOne f n k q.0
     one-here z = record { inside = next-below; one = next_one_lem f n p q (sym e); number = omega (arith, reached, z, next-count f n p q (sym e)) }
 
-    pub one_on : (left ≡ 0 → ⊥) → count_below f (q + 1) + (left - 1) ≡ k
-    one_on z = rw (add-one q, count-suc-one f q (next_one_lem f n p q (sym e)), next-count f n p q (sym e)) (omega (arith, reached, z))
+    pub one_on : (left ≡ 0 → ⊥) → count_below f (q.0 + 1) + (left - 1) ≡ k
+    one_on z = rw (add-one q.0, count-suc-one f q.0 (next_one_lem f n p q (sym e)), next-count f n p q (sym e)) (omega (arith, reached, z))
 
 -- the number of a place's stored value is small
 pub number_small : (s : List ℕ) (st : Stored) (child value p n : ℕ) {k : ℕ} → k ≡ number_of s st child value p → p < 8 * n → n ≤ 4096 → k < 32768

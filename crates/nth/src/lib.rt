@@ -9,7 +9,6 @@ ghost use Rattle.nth.specs.Inner.{stored_of, IsOne, HasOne, BehindOne};
 
 use coordinates::Index;
 use forms::Stored;
-use masks::NextOne;
 use slots::Inside;
 
 // The place of the one with the number k, from 0, among those from a place on.
@@ -19,16 +18,14 @@ fn one_from(s: &[u8], at: usize, n: usize, from: u32, k: u32) -> Index
 {
     let mut p = from;
     let mut left = k;
-    loop {
-        let NextOne::At(q) = masks::next_one(s, at, n, Index(p)) else {
-            return Index(0);
-        };
+    while let Some(q) = masks::next_one(s, at, n, Index(p)) {
         if left == 0 {
             return q;
         }
-        left = left - 1;
+        left -= 1;
         p = q.0 + 1;
     }
+    Index(0)
 }
 
 // The place of the one with the number k, from 0: words with fewer ones are passed whole.
@@ -37,14 +34,13 @@ fn nth_one(s: &[u8], at: usize, n: usize, k: u32) -> Index
     ensures { IsOne (mask_bit s.now at) (8 * n) k result.0 }
 {
     let mut left = k;
-    let mut i: usize = 0;
-    while i < n {
-        let ones = u64::count_ones(masks::word(s, at, n, i));
+    for j in 0..n / 8 {
+        let i = 8 * j;
+        let ones = masks::word(s, at, n, i).count_ones();
         if left < ones {
             return one_from(s, at, n, 8 * i as u32, left);
         }
-        left = left - ones;
-        i = i + 8;
+        left -= ones;
     }
     Index(0)
 }
