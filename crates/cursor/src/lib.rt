@@ -49,6 +49,9 @@ pub struct Cursor {
     pub block_pos: usize,
 }
 
+// The next piece and the cursor behind it, or that no piece is left, or the check that refuses the next one.
+pub type NextPiece = Result<Option<(Piece, Cursor)>, ParseError>;
+
 // The cursor between roots, of which so many follow. Where all of a tree's roots follow, this is the start.
 pub fn between_roots(roots_left: u32, topology_pos: usize, block_pos: usize) -> Cursor
     ensures { result ≡ between_roots roots_left topology_pos block_pos }
@@ -115,7 +118,7 @@ fn leaf_at(
     p: Index,
     topology_pos: usize,
     block_pos: usize,
-) -> Result<Option<(Piece, Cursor)>, ParseError>
+) -> NextPiece
     requires { IsWidth c.width × (aligned 128 node4.origin ≡ true) × (p.0 < 4096) }
     ensures { says_piece s.now c result ≡ leaf_rest s.now c roots_left node5 node4.origin node4.pos p.0 (from4 s.now c roots_left node5 (beyond node4.origin node4.pos p.0)) topology_pos block_pos }
 {
@@ -141,14 +144,7 @@ fn leaf_at(
 }
 
 // A node is left, and is the piece. Its header is read again here, so that a cursor need not hold it.
-fn leave(
-    s: &[u8],
-    c: Coding,
-    level: u32,
-    n: usize,
-    w: Entered,
-    behind: Cursor,
-) -> Result<Option<(Piece, Cursor)>, ParseError>
+fn leave(s: &[u8], c: Coding, level: u32, n: usize, w: Entered, behind: Cursor) -> NextPiece
     requires { IsWidth c.width × (n % 8 ≡ 0) × (n ≤ 4096) }
     ensures { says_piece s.now c result ≡ leaving s.now c level n w.origin w.pos behind (to_come s.now c behind) }
 {
@@ -172,7 +168,7 @@ fn next_in_node4(
     node4: Entered,
     topology_pos: usize,
     block_pos: usize,
-) -> Result<Option<(Piece, Cursor)>, ParseError>
+) -> NextPiece
     requires { IsWidth c.width }
     ensures { says_piece s.now c result ≡ from4 s.now c roots_left node5 node4 topology_pos block_pos }
 {
@@ -198,7 +194,7 @@ fn node4_at(
     p: Index,
     topology_pos: usize,
     block_pos: usize,
-) -> Result<Option<(Piece, Cursor)>, ParseError>
+) -> NextPiece
     requires { IsWidth c.width × (aligned 4096 node5.origin ≡ true) × (p.0 < 32768) }
     ensures { says_piece s.now c result ≡ node4_rest s.now c roots_left node5.origin node5.pos p.0 (from5 s.now c roots_left (beyond node5.origin node5.pos p.0)) topology_pos block_pos }
 {
@@ -223,7 +219,7 @@ fn next_in_node5(
     node5: Entered,
     topology_pos: usize,
     block_pos: usize,
-) -> Result<Option<(Piece, Cursor)>, ParseError>
+) -> NextPiece
     requires { IsWidth c.width }
     ensures { says_piece s.now c result ≡ from5 s.now c roots_left node5 topology_pos block_pos }
 {
@@ -243,7 +239,7 @@ fn next_in_roots(
     roots_left: u32,
     topology_pos: usize,
     block_pos: usize,
-) -> Result<Option<(Piece, Cursor)>, ParseError>
+) -> NextPiece
     requires { IsWidth c.width }
     ensures { says_piece s.now c result ≡ roots_rest s.now c roots_left topology_pos block_pos }
 {
@@ -261,11 +257,7 @@ fn next_in_roots(
 }
 
 // The next piece, and the cursor behind it. A cursor that no call gave gets pieces of this file or a refusal.
-pub fn next_piece(
-    s: &[u8],
-    c: Coding,
-    cursor: Cursor,
-) -> Result<Option<(Piece, Cursor)>, ParseError>
+pub fn next_piece(s: &[u8], c: Coding, cursor: Cursor) -> NextPiece
     requires { IsWidth c.width }
     ensures { says_piece s.now c result ≡ to_come s.now c cursor }
 {
