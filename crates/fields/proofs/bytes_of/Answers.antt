@@ -1,5 +1,4 @@
 -- The three ways out: the start lies past the end, the end cuts the bytes short, or all of them are there.
-use borrow.Author.Rules.{rules}
 use native.Mathlib.Omega.{arith}
 use Rattle.fields.proofs.Laws.{part_none, part-short, part-whole}
 use Rattle.fields.proofs.bytes_of.Goals as goal

@@ -1,5 +1,4 @@
 -- The test tells the patterns of NaN apart; every other pattern is one that `from_bits` is defined on.
-use borrow.Author.Rules.{rules}
 use lib.Ieee.{of_bits, div}
 use Rattle.fields.proofs.Laws.{nan-bits, no-nan-bits}
 use Rattle.fields.proofs.f64_of.Goals as goal

@@ -1,5 +1,4 @@
 -- The bytes that a start and a length stand for, compared.
-use borrow.Author.Rules.{rules}
 use Rattle.fields.proofs.has_bytes.Goals as goal
 
 pub returns : goal.returns

@@ -1,5 +1,5 @@
 -- The standard library's reading of a pattern is the document's.
-use Rattle.std.proofs.Common.{◌∙◌, ap}
+use Rattle.std.proofs.Common.{◌∙◌}
 use mir.Syntax.{w32}
 use Rattle.fields.proofs.Laws.{signed32, kept}
 use Rattle.fields.proofs.i32_of.Goals as goal

@@ -1,6 +1,4 @@
 -- The bytes are there, or they run past the end.
-use native.Mathlib.Omega.{arith}
-use Rattle.std.proofs.Common.{refl}
 use Rattle.fields.proofs.Steps.{whole-past, whole-there}
 use Rattle.fields.proofs.read_u32.Goals as goal
 
