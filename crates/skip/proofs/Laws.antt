@@ -2,12 +2,12 @@
 use mathlib.Core.Path.{◌≡◌, refl, sym, ap, ◌∙◌}
 use mathlib.Core.List.{List, [], ◌∷◌, ◌++◌}
 use mathlib.Core.Bool.{Bool, true, false, ◌&&◌}
-use mathlib.Core.Option.{Option, none, some}
 use Prim.Native.Nat.{ℕ, ◌+◌, ◌-◌, ◌≤◌}
 use native.Mathlib.Numerals.{unary_clauses}
 use native.Mathlib.Omega.{arith}
 use borrow.Author.Tests.{le-leb, leb-true}
 use lib.Dec.{leb}
+use Rattle.std.proofs.Common.{Option, None, Some}
 use Rattle.fields.specs.Parse.{when}
 use Rattle.coordinates.proofs.Axis.{and_both}
 use Rattle.half.specs.Inner.{IsWidth}
@@ -50,8 +50,8 @@ module _ (s : List ℕ) where
   module _ (c : Coding) (wide : IsWidth c.width) (t : Stop) (n' k' : ℕ) where
     none-there : (n k : ℕ) (r : Option ℕ) → before t n' k' ≡ skipping s n k [] r → ⊥
     unfolding skipping
-    none-there n k none e = let z : ◌≡◌ {A = ℕ} 0 1 = cc in omega arith
-    none-there n k (some j) e = let z : ◌≡◌ {A = ℕ} 0 1 = cc in omega arith
+    none-there n k None e = let z : ◌≡◌ {A = ℕ} 0 1 = cc in omega arith
+    none-there n k (Some j) e = let z : ◌≡◌ {A = ℕ} 0 1 = cc in omega arith
 
     -- one piece and then the others: behind it these come, whether it is passed or not
     module _ (x : Cursor) (n k : ℕ) {u : Stop} {us : List Stop} (e : (to_come s c x).items ≡ u ∷ us) where
@@ -120,16 +120,16 @@ module _ (s : List ℕ) where
   unfolding skipping when total
   all_fit t ts n k r l m = rw (le-leb (record_count s t.piece) n (omega arith), le-leb (leaf_count t.piece) k (omega arith))
 
-  pub skip-refused : (ts : List Stop) (n k j : ℕ) → records_in s ts ≤ n → leaves_in ts ≤ k → skipping s n k ts (some j) ≡ refused j
+  pub skip-refused : (ts : List Stop) (n k j : ℕ) → records_in s ts ≤ n → leaves_in ts ≤ k → skipping s n k ts (Some j) ≡ refused j
   unfolding skipping total
   skip-refused [] n k j l m = refl
-  skip-refused (t ∷ ts) n k j l m = all_fit t ts n k (some j) l m ∙ skip-refused ts _ _ j (omega arith) (omega arith)
+  skip-refused (t ∷ ts) n k j l m = all_fit t ts n k (Some j) l m ∙ skip-refused ts _ _ j (omega arith) (omega arith)
 
-  pub skip-ended : (ts : List Stop) (n k : ℕ) → records_in s ts ≤ n → leaves_in ts ≤ k → skipping s n k ts none ≡ ended (n - records_in s ts) (k - leaves_in ts)
+  pub skip-ended : (ts : List Stop) (n k : ℕ) → records_in s ts ≤ n → leaves_in ts ≤ k → skipping s n k ts None ≡ ended (n - records_in s ts) (k - leaves_in ts)
   unfolding skipping total
   skip-ended [] n k l m = simp unary_clauses
   skip-ended (t ∷ ts) n k l m =
-      all_fit t ts n k none l m ∙ skip-ended ts _ _ (omega arith) (omega arith)
+      all_fit t ts n k None l m ∙ skip-ended ts _ _ (omega arith) (omega arith)
       ∙ (λ i. ended (behind n (record_count s t.piece) (records_in s ts) i) (behind k (leaf_count t.piece) (leaves_in ts) i))
     where
       behind : (m a b : ℕ) → m - a - b ≡ m - (a + b)

@@ -2,17 +2,19 @@
 use mathlib.Core.Path.{◌≡◌, refl, sym, ap, ◌∙◌}
 use mathlib.Core.List.{List}
 use mathlib.Core.Bool.{true}
-use mathlib.Core.Option.{some}
 use Prim.Native.Nat.{ℕ, ◌+◌, ◌-◌, ◌≤◌, ◌<◌}
 use native.Mathlib.Omega.{arith}
 use lib.Dec.{lit≤}
 use lib.ListN.{length}
+use Rattle.std.proofs.Common.{Some}
+use Rattle.fields.specs.Answer.{gives}
 use Rattle.fields.specs.Parse.{got, when}
 use Rattle.fields.specs.Fields.{bytes_field}
 use Rattle.fields.specs.declared.Span.{Span}
 use Rattle.fields.proofs.Laws.{when_true}
-use Rattle.coordinates.specs.Coordinates.{index, global_of, aligned}
+use Rattle.coordinates.specs.Coordinates.{global_of, aligned}
 use Rattle.coordinates.specs.declared.GlobalCoord.{GlobalCoord}
+use Rattle.coordinates.specs.declared.Index.{Index}
 use Rattle.masks.specs.Masks.{mask_bit, count_below}
 use Rattle.masks.specs.Inner.{next_one, IsMask}
 use Rattle.masks.proofs.Laws.{next-lt, agree-ones}
@@ -69,27 +71,27 @@ module _ {s : List ℕ} {c : Coding} {origin : GlobalCoord} {node : ℕ} {t v : 
   pub multiple : aligned 128 origin ≡ true
   multiple = words.multiple
 
-  module _ {p : ℕ} (e : some p ≡ next_one (mask_bit s node) 4096 v.next) where
-    pub place-below : p < 4096
+  module _ {p : Index} (e : Some p ≡ next_one (mask_bit s node) 4096 v.next) where
+    pub place-below : p.0 < 4096
     place-below = next-lt (mask_bit s node) 4096 v.next p (sym e)
 
-    is-child : some (some p) ≡ next_child s 128 512 four
+    is-child : gives (Some p) ≡ next_child s 128 512 four
     unfolding next_child
-    is-child = when_true _ (sym h.words) (ap some e)
+    is-child = when_true _ (sym h.words) (ap gives e)
 
     -- the leaf's mask is read, its ones are counted, and its block is passed
-    module _ {w : Span} {q : ℕ} (d : got w q ≡ bytes_field s 64 v.at) {o : GlobalCoord} (f : o ≡ global_of 16 8 origin (index p)) {n : ℕ}
+    module _ {w : Span} {q : ℕ} (d : got w q ≡ bytes_field s 64 v.at) {o : GlobalCoord} (f : o ≡ global_of 16 8 origin p) {n : ℕ}
         (count : n ≡ count_below (mask_bit s w.start) 512) (fits : n ≤ v.records) (one : v.leaves ≡ 0 → ⊥) {r : ℕ} {u : Unit}
         (g : got u r ≡ end_of (block_field s c (record { origin = o; mask = w.start }) v.block)) where
       abbrev further : LeafRun
-      further = record { next = p + 1; at = q; block = r; records = v.records - n; leaves = v.leaves - 1 }
+      further = record { next = p.0 + 1; at = q; block = r; records = v.records - n; leaves = v.leaves - 1 }
 
       there :
           (roots : ℕ) (five : Entered) (b : Block) → got b r ≡ block_field s c (record { origin = o; mask = w.start }) v.block →
           (let y = (as_run roots five origin node further).cursor in stop (leaf_piece b) y (to_come s c y)) ≡ to_come s c (as_run roots five origin node v).cursor
       unfolding rest4
       there roots five b g =
-          leaf-there s c roots five origin node p v.at v.block d f g refl
+          leaf-there s c roots five origin node p.0 v.at v.block d f g refl
           ∙ children-some s 128 512 _ four _ v.at v.block is-child ∙ sym (to-come4 s c roots v.at v.block five four)
 
       is_leaf_lem : (b : Block) → 1 ≡ leaf_count (leaf_piece b)
@@ -103,7 +105,7 @@ module _ {s : List ℕ} {c : Coding} {origin : GlobalCoord} {node : ℕ} {t v : 
           let k : n ≡ record_count s (leaf_piece b) = count ∙ sym (ap length (agree-ones _ _ 512 (block_back s c _ v.block b r a.1).agrees)) in
           let l = place-below in
           record {
-            words = sym (entered-aligned s 128 512 (beyond origin node p) words.within (omega arith) (sym multiple));
+            words = sym (entered-aligned s 128 512 (beyond origin node p.0) words.within (omega arith) (sym multiple));
             ran = λ roots five.
                 let z = piece-passed s c (as_run roots five origin node v) (there roots five b a.1) k (is_leaf_lem b) fits (omega (arith, one)) in
                 record { same = z.0 ∙ (h.ran roots five).same; no_more = omega (arith, z.1, (h.ran roots five).no_more) };

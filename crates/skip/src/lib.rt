@@ -2,50 +2,47 @@
 // and so many leaves. Nothing of a piece is read but its masks, which count its records.
 #![tactic(auto)]
 
-ghost use Rattle.std.specs.Prelude.{◌≡◌, true, ◌/◌};
-ghost use Rattle.std.proofs.Math.Option.{some};
+ghost use Rattle.std.specs.Prelude.{◌≡◌, true, ◌/◌, Some};
 ghost use Rattle.coordinates.specs.Coordinates.{places};
 ghost use Rattle.masks.specs.Masks.{mask_bit, count_below};
 ghost use Rattle.masks.specs.Inner.{IsMask, next_one};
 ghost use Rattle.half.specs.Inner.{IsWidth};
 ghost use Rattle.tree.specs.Active.{edge_of};
 ghost use Rattle.cursor.specs.Inner.{in_node5, in_node4, is_entered};
-ghost use Rattle.skip.specs.Inner.{skip_from, says_skip, RanTo, passed_by, node4_of, LeavesRan, InNode5, NodeRan};
+ghost use Rattle.skip.specs.Inner.{skip_from, says_skip, RanTo, node4_of, LeavesRan, InNode5, NodeRan};
 
 use coordinates::{GlobalCoord, Index};
-use cursor::{Cursor, Entered, NextPiece, Piece};
-use fields::{EndField, SpanField};
+use cursor::{Cursor, Entered, Piece};
+use fields::ParseError;
 use forms::Coding;
-use masks::NextOne;
-use nodes::{Leaf, NodeField};
+use nodes::Leaf;
 
-// The first piece that does not fit, the cursor behind it, and the records and leaves still to be passed; or that all pieces are passed, with what is
-// left to be passed; or the check that refuses the next piece.
+// The first piece that does not fit with the cursor behind it, or that all pieces are passed; and the records and leaves still to be passed.
 #[derive(Drop)]
 pub enum Skipped {
-    Before(Piece, Cursor, u64, u64),
-    End(u64, u64),
-    Refused(u32),
+    Before {
+        piece: Piece,
+        behind: Cursor,
+        records: u64,
+        leaves: u64,
+    },
+    End {
+        records: u64,
+        leaves: u64,
+    },
 }
 
 // Where a run over pieces stands: its cursor, and the records and leaves still to be passed.
-#[derive(Drop)]
+#[derive(Clone, Copy)]
 struct Run {
     cursor: Cursor,
     records: u64,
     leaves: u64,
 }
 
-// One piece more: it is passed, or this is the answer.
-#[derive(Drop)]
-enum Passed {
-    On(Run),
-    Out(Skipped),
-}
-
 // Where a run over the leaves of a 4-node stands: the first place that is not passed, where topology and blocks go on, and the records and leaves still
 // to be passed.
-#[derive(Drop)]
+#[derive(Clone, Copy)]
 struct LeafRun {
     next: u32,
     at: usize,
@@ -54,11 +51,10 @@ struct LeafRun {
     leaves: u64,
 }
 
-// A run over a 4-node: it is passed, its leaves and itself, and topology and blocks go on here with so many records and leaves still to be passed; or
-// where the run stops before that.
-#[derive(Drop)]
+// A run over a 4-node: it is passed, its leaves and itself, and the run goes on behind it in the 5-node; or the run stops before that.
+#[derive(Clone, Copy)]
 enum Node4Run {
-    Passed(usize, usize, u64, u64),
+    Passed(Run),
     Stopped(Run),
 }
 
@@ -72,33 +68,6 @@ fn count_records(s: &[u8], level: u32, value: usize) -> u32
         1 => masks::count_ones(s, value, 512),
         2 => masks::count_ones(s, value, 4096),
         _ => 0,
-    }
-}
-
-// One piece more. Only here an end or a refusal is noticed.
-fn pass_piece(s: &[u8], c: Coding, t: Run) -> Passed
-    requires { IsWidth c.width }
-    ensures { passed_by s.now c t result }
-{
-    let x = t.cursor;
-    match cursor::next_piece(s, c, x) {
-        NextPiece::End => Passed::Out(Skipped::End(t.records, t.leaves)),
-        NextPiece::Refused(k) => Passed::Out(Skipped::Refused(k)),
-        NextPiece::At(q, behind) => {
-            let leaf = if q.level == 0 { 1 } else { 0 };
-            if t.leaves < leaf {
-                return Passed::Out(Skipped::Before(q, behind, t.records, t.leaves));
-            }
-            let count = count_records(s, q.level, q.value) as u64;
-            if t.records < count {
-                return Passed::Out(Skipped::Before(q, behind, t.records, t.leaves));
-            }
-            Passed::On(Run {
-                cursor: behind,
-                records: t.records - count,
-                leaves: t.leaves - leaf,
-            })
-        }
     }
 }
 
@@ -138,29 +107,29 @@ fn run_leaves(s: &[u8], c: Coding, origin: GlobalCoord, child: usize, start: Lea
     let mut records = start.records;
     let mut leaves = start.leaves;
     while leaves != 0 {
-        let NextOne::At(p) = masks::next_one(s, child, 512, Index(next)) else {
+        let Some(p) = masks::next_one(s, child, 512, Index(next)) else {
             break;
         };
-        let SpanField::Got(span, q) = fields::read_bytes(s, at, 64) else {
+        let Ok((span, q)) = fields::read_bytes(s, at, 64) else {
             break;
         };
-        let n = masks::count_ones(s, span.start, 64);
-        if records < n as u64 {
+        let ones = masks::count_ones(s, span.start, 64);
+        let n = u64::from(ones);
+        if records < n {
             break;
         }
-        let leaf_origin = coordinates::offset_to_global_coord(p, 16, 8, origin);
         let leaf = Leaf {
-            origin: leaf_origin,
+            origin: coordinates::offset_to_global_coord(p, 16, 8, origin),
             mask: span.start,
         };
-        let EndField::Got(r) = nodes::pass_block(s, c, leaf, n as usize, block) else {
+        let Ok(r) = nodes::pass_block(s, c, leaf, ones as usize, block) else {
             break;
         };
         next = p.0 + 1;
         at = q;
         block = r;
-        records = records - n as u64;
-        leaves = leaves - 1;
+        records -= n;
+        leaves -= 1;
     }
     LeafRun {
         next,
@@ -173,17 +142,17 @@ fn run_leaves(s: &[u8], c: Coding, origin: GlobalCoord, child: usize, start: Lea
 
 // The 4-node at place p of the 5-node where the run stands: its leaves, and then itself, as long as they fit. Its header is read once for both.
 fn run_node4(s: &[u8], c: Coding, t: Run, p: Index) -> Node4Run
-    requires { IsWidth c.width × InNode5 s.now t × (some p.0 ≡ next_one (mask_bit s.now t.cursor.node5.pos) 32768 t.cursor.node5.next) }
+    requires { IsWidth c.width × InNode5 s.now t × (Some p ≡ next_one (mask_bit s.now t.cursor.node5.pos) 32768 t.cursor.node5.next) }
     ensures { NodeRan s.now c t p.0 result }
 {
     let x = t.cursor;
-    let mut node5 = x.node5;
-    let origin5 = node5.origin;
     let pos = x.topology_pos;
-    let NodeField::Got(h, at) = nodes::read_node_header(s, c, 512, pos) else {
+    let Ok((h, at)) = nodes::read_node_header(s, c, 512, pos) else {
         return Node4Run::Stopped(t);
     };
-    let origin = coordinates::offset_to_global_coord(p, 32, 128, origin5);
+    let origin = coordinates::offset_to_global_coord(p, 32, 128, x.node5.origin);
+    let mut node5 = x.node5;
+    node5.next = p.0 + 1;
     let start = LeafRun {
         next: 0,
         at,
@@ -192,21 +161,23 @@ fn run_node4(s: &[u8], c: Coding, t: Run, p: Index) -> Node4Run
         leaves: t.leaves,
     };
     let r = run_leaves(s, c, origin, pos, start);
-    if let NextOne::Nothing = masks::next_one(s, pos, 512, Index(r.next)) {
-        let tiles = masks::count_ones(s, h.value, 512) as u64;
+    if masks::next_one(s, pos, 512, Index(r.next)).is_none() {
+        let tiles = u64::from(masks::count_ones(s, h.value, 512));
         if tiles <= r.records {
-            return Node4Run::Passed(r.at, r.block, r.records - tiles, r.leaves);
+            return Node4Run::Passed(Run {
+                cursor: in_node5(x.roots_left, node5, r.at, r.block),
+                records: r.records - tiles,
+                leaves: r.leaves,
+            });
         }
     }
-    node5.next = p.0 + 1;
     let node4 = Entered {
         origin,
         pos,
         next: r.next,
     };
-    let behind = in_node4(x.roots_left, node5, node4, r.at, r.block);
     Node4Run::Stopped(Run {
-        cursor: behind,
+        cursor: in_node4(x.roots_left, node5, node4, r.at, r.block),
         records: r.records,
         leaves: r.leaves,
     })
@@ -218,27 +189,13 @@ fn run_nodes(s: &[u8], c: Coding, start: Run) -> Run
     ensures { RanTo s.now c start result }
 {
     let mut t = start;
-    loop {
-        let x = t.cursor;
-        let mut node5 = x.node5;
-        let NextOne::At(p) = masks::next_one(s, node5.pos, 4096, Index(node5.next)) else {
-            return t;
-        };
+    while let Some(p) = masks::next_one(s, t.cursor.node5.pos, 4096, Index(t.cursor.node5.next)) {
         match run_node4(s, c, t, p) {
-            Node4Run::Stopped(r) => {
-                return r;
-            }
-            Node4Run::Passed(at, block, records, leaves) => {
-                node5.next = p.0 + 1;
-                let behind = in_node5(x.roots_left, node5, at, block);
-                t = Run {
-                    cursor: behind,
-                    records,
-                    leaves,
-                };
-            }
+            Node4Run::Stopped(r) => return r,
+            Node4Run::Passed(r) => t = r,
         }
     }
+    t
 }
 
 // The leaves of the 4-node, or the 4-nodes of the 5-node, where the run stands; where it stands in none it does not move.
@@ -247,38 +204,38 @@ fn run_on(s: &[u8], c: Coding, t: Run) -> Run
     ensures { RanTo s.now c t result }
 {
     let x = t.cursor;
-    let node5 = x.node5;
-    let mut node4 = x.node4;
-    if x.depth == 1 {
-        if cursor::is_entered(s, 4096, 4096, node5) {
-            return run_nodes(s, c, t);
-        }
+    if x.depth == 1 && cursor::is_entered(s, 4096, 4096, x.node5) {
+        return run_nodes(s, c, t);
     }
-    if x.depth == 2 {
-        if cursor::is_entered(s, 128, 512, node4) {
-            let origin = node4.origin;
-            let start = LeafRun {
-                next: node4.next,
-                at: x.topology_pos,
-                block: x.block_pos,
-                records: t.records,
-                leaves: t.leaves,
-            };
-            let r = run_leaves(s, c, origin, node4.pos, start);
-            node4.next = r.next;
-            let behind = in_node4(x.roots_left, node5, node4, r.at, r.block);
-            return Run {
-                cursor: behind,
-                records: r.records,
-                leaves: r.leaves,
-            };
-        }
+    if x.depth == 2 && cursor::is_entered(s, 128, 512, x.node4) {
+        let mut node4 = x.node4;
+        let start = LeafRun {
+            next: node4.next,
+            at: x.topology_pos,
+            block: x.block_pos,
+            records: t.records,
+            leaves: t.leaves,
+        };
+        let r = run_leaves(s, c, node4.origin, node4.pos, start);
+        node4.next = r.next;
+        return Run {
+            cursor: in_node4(x.roots_left, x.node5, node4, r.at, r.block),
+            records: r.records,
+            leaves: r.leaves,
+        };
     }
     t
 }
 
-// The pieces from a cursor on, as long as they fit. A cursor that no call gave gets pieces of this file or a refusal.
-pub fn skip(s: &[u8], c: Coding, start: Cursor, records: u64, leaves: u64) -> Skipped
+// The pieces from a cursor on, as long as they fit. Only here an end or a refusal is noticed. A cursor that no call gave gets pieces of this file or a
+// refusal.
+pub fn skip(
+    s: &[u8],
+    c: Coding,
+    start: Cursor,
+    records: u64,
+    leaves: u64,
+) -> Result<Skipped, ParseError>
     requires { IsWidth c.width }
     ensures { says_skip result ≡ skip_from s.now c records leaves start }
 {
@@ -288,13 +245,27 @@ pub fn skip(s: &[u8], c: Coding, start: Cursor, records: u64, leaves: u64) -> Sk
         leaves,
     };
     loop {
-        match pass_piece(s, c, t) {
-            Passed::Out(a) => {
-                return a;
-            }
-            Passed::On(r) => {
-                t = run_on(s, c, r);
-            }
+        let Some((piece, behind)) = cursor::next_piece(s, c, t.cursor)? else {
+            return Ok(Skipped::End {
+                records: t.records,
+                leaves: t.leaves,
+            });
+        };
+        let leaf = u64::from(piece.level == 0);
+        let count = u64::from(count_records(s, piece.level, piece.value));
+        if t.leaves < leaf || t.records < count {
+            return Ok(Skipped::Before {
+                piece,
+                behind,
+                records: t.records,
+                leaves: t.leaves,
+            });
         }
+        let passed = Run {
+            cursor: behind,
+            records: t.records - count,
+            leaves: t.leaves - leaf,
+        };
+        t = run_on(s, c, passed);
     }
 }

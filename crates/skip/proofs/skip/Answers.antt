@@ -1,24 +1,47 @@
--- One piece more is passed, or the answer is there; then the run goes on from where it stands.
-use mathlib.Core.Path.{◌∙◌, subst}
+-- One piece more: there is none, it is refused, it is passed, or it does not fit.
+use mathlib.Core.Path.{◌≡◌, ◌∙◌}
 use native.Mathlib.Nat.{lt_of_le_of_lt}
-use Rattle.skip.specs.Inner.{passed_by}
+use Rattle.std.proofs.Common.{Option, Ok}
+use Rattle.fields.proofs.Laws.{told}
+use Rattle.cursor.specs.Inner.{says_piece, piece_of, stop, to_come}
+use Rattle.cursor.specs.declared.Cursor.{Cursor}
+use Rattle.cursor.specs.declared.Piece.{Piece}
+use Rattle.skip.proofs.Steps.{handed-skip, leaf-is, at-end, at-refusal, held-there, piece-passed, records-missing, leaf-missing}
+use Rattle.skip.proofs.skip.Goals.{In-Some, then-t-leaf-via-then-t-leaf, then-t-leaf-via-else-t-leaf+then-t-count}
 use Rattle.skip.proofs.skip.Goals as goal
 
-pub pass_piece-requires : goal.pass_piece-requires
-pass_piece-requires c = c.requires
+-- the piece that is there
+there : (c : In-Some) → let y = c.in-Some.behind in stop (piece_of c.in-Some.piece) y (to_come c.args.s.now c.args.c y) ≡ to_come c.args.s.now c.args.c c.loop-piece.t.cursor
+there c = told (λ (o : Option (Piece × Cursor)). says_piece c.args.s.now c.args.c (Ok o)) c.in-Some.is c.in_ok-piece.ensures
 
-pub returns-in-Out : goal.returns-in-Out
-returns-in-Out c = subst (passed_by _ _ _) c.in-Out.is c.pass_piece.ensures ∙ c.loop-a.invariant
+pub returns-in_err-piece : goal.returns-in_err-piece
+returns-in_err-piece c = handed-skip _ _ c.from_residual.ensures.1 (at-refusal _ _ c.loop-piece.t c.in_err-piece.ensures ∙ c.loop-piece.invariant)
 
-pub run_on-t-requires : goal.run_on-t-requires
-run_on-t-requires c = c.requires
+pub returns-in_default : goal.returns-in_default
+returns-in_default c =
+    at-end _ _ c.loop-piece.t (told (λ (o : Option (Piece × Cursor)). says_piece c.args.s.now c.args.c (Ok o)) c.in_default.is c.in_ok-piece.ensures)
+    ∙ c.loop-piece.invariant
 
-pub loop-a-smaller : goal.loop-a-smaller
-loop-a-smaller c =
-    let on = subst (passed_by c.args.s.now c.args.c c.loop-a.t) c.in-On.is c.pass_piece.ensures in
-    lt_of_le_of_lt c.run_on-t.ensures.no_more on.1
+pub count_records-requires : goal.count_records-requires
+count_records-requires c = (held-there _ _ c.loop-piece.t (there (goal.at.count_records-requires c).In-Some) c.requires).held.value-mask
 
-pub loop-a-preserved : goal.loop-a-preserved
-loop-a-preserved c =
-    let on = subst (passed_by c.args.s.now c.args.c c.loop-a.t) c.in-On.is c.pass_piece.ensures in
-    c.run_on-t.ensures.same ∙ on.0 ∙ c.loop-a.invariant
+pub returns-then-t-leaf : goal.returns-then-t-leaf
+returns-then-t-leaf c =
+    let e = there (goal.at.returns-then-t-leaf c).In-Some in
+    elim c.then-t-leaf.branch [
+      | then-t-leaf-via-then-t-leaf w ↦ leaf-missing _ _ c.loop-piece.t e (c.from-leaf.ensures ∙ leaf-is _) w.if-t-leaf.true ∙ c.loop-piece.invariant
+      | then-t-leaf-via-else-t-leaf+then-t-count w ↦ records-missing _ _ c.loop-piece.t e (c.from-count.ensures ∙ c.count_records.ensures) w.if-t-count.true ∙ c.loop-piece.invariant
+    ]
+
+pub loop-piece-smaller : goal.loop-piece-smaller
+loop-piece-smaller c =
+    let e = there (goal.at.loop-piece-smaller c).In-Some in
+    lt_of_le_of_lt c.run_on-t.ensures.no_more
+    (piece-passed _ _ c.loop-piece.t e (c.from-count.ensures ∙ c.count_records.ensures) (c.from-leaf.ensures ∙ leaf-is _) c.if-t-count.false c.if-t-leaf.false).1
+
+pub loop-piece-preserved : goal.loop-piece-preserved
+loop-piece-preserved c =
+    let e = there (goal.at.loop-piece-preserved c).In-Some in
+    c.run_on-t.ensures.same
+    ∙ (piece-passed _ _ c.loop-piece.t e (c.from-count.ensures ∙ c.count_records.ensures) (c.from-leaf.ensures ∙ leaf-is _) c.if-t-count.false c.if-t-leaf.false).0
+    ∙ c.loop-piece.invariant
