@@ -5,8 +5,6 @@ use Rattle.fields.specs.Parse.{Parse, got, fails, then}
 use Rattle.fields.specs.Fields.{u32_field}
 use Rattle.reader.specs.declared.Reader.{Reader}
 use Rattle.reader.specs.declared.Versions.{Versions}
-use Rattle.reader.specs.declared.VersionsField.{VersionsField}
-use Rattle.reader.specs.declared.VersionsField.TheVariants.{Got as GotVersions, Past as PastVersions}
 
 -- a reader of these bytes at this position
 abbrev pub reader_at : Bor (List ℕ) → ℕ → Reader
@@ -32,8 +30,3 @@ versions_field s at =
     then (u32_field s p) λ major q.
     then (u32_field s q) λ minor n.
     got (versions version major minor) n
-
--- what the code's answer says
-abbrev pub says_versions : VersionsField → Parse Versions
-says_versions (GotVersions v n) = got v n
-says_versions PastVersions = fails 2
