@@ -1,4 +1,5 @@
 -- Before version 222 nothing is read; from 222 on the flags are read, and then comes check 7.
+use native.Mathlib.Omega.{arith}
 use mathlib.Core.Path.{◌≡◌, refl, ap, ◌∙◌}
 use mathlib.Core.Bool.{Bool, true, false}
 use mir.Val.{bool_byte}
@@ -22,7 +23,7 @@ returns-in_err-f c = handed-on _ _ c.from_residual.ensures.1 (search (steps, c.i
 
 pub returns-then-f-gt7 : goal.returns-then-f-gt7
 unfolding flags_field
-returns-then-f-gt7 c = search (steps, c.in_ok-f.ensures)
+returns-then-f-gt7 c = search (steps, arith, c.in_ok-f.ensures)
 
 pub returns : goal.returns
 unfolding flags_field

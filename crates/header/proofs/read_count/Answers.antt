@@ -1,4 +1,5 @@
 -- The number is read, and then check 8 says that it is at most 64.
+use native.Mathlib.Omega.{arith}
 use Rattle.fields.proofs.Steps.{read, steps, handed-on}
 use Rattle.header.specs.Header.{count_field}
 use Rattle.header.proofs.read_count.Goals as goal
@@ -9,7 +10,7 @@ returns-in_err-n c = handed-on _ _ c.from_residual.ensures.1 (search (read, c.in
 
 pub returns-then-n-gt64 : goal.returns-then-n-gt64
 unfolding count_field
-returns-then-n-gt64 c = search (steps, c.in_ok-n.ensures)
+returns-then-n-gt64 c = search (steps, arith, c.in_ok-n.ensures)
 
 pub returns : goal.returns
 unfolding count_field

@@ -1,4 +1,5 @@
 -- Check 1, then the fields in their order. Of the metadata only the end is used, whatever name is looked for.
+use native.Mathlib.Omega.{arith}
 use Rattle.fields.proofs.Steps.{steps, handed-on}
 use Rattle.metadata.proofs.Laws.{metadata-got, metadata-fails}
 use Rattle.header.specs.Header.{header}
@@ -6,7 +7,7 @@ use Rattle.header.proofs.read_header.Goals as goal
 
 pub returns-then-s-gt2147483647 : goal.returns-then-s-gt2147483647
 unfolding header
-returns-then-s-gt2147483647 c = search steps
+returns-then-s-gt2147483647 c = search (steps, arith)
 
 pub returns-in_err-front : goal.returns-in_err-front
 unfolding header
