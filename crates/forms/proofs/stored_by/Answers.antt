@@ -16,6 +16,6 @@ returns-then-form c = rw (le-ltb _ _ c.if-c-lt222.false, eq-eqb _ _ c.if-c-eq1.t
 pub returns : goal.returns
 unfolding stored_by when
 returns c = elim c.else-c-eq1.branch [
-    else-c-eq1-via-then-c-eq1+else-form w ↦ rw (le-ltb _ _ c.if-c-lt222.false, eq-eqb _ _ w.if-c-eq1.true, w.if-form.false)
+  | else-c-eq1-via-then-c-eq1+else-form w ↦ rw (le-ltb _ _ c.if-c-lt222.false, eq-eqb _ _ w.if-c-eq1.true, w.if-form.false)
   | else-c-eq1-via-else-c-eq1 w ↦ rw (le-ltb _ _ c.if-c-lt222.false, ne_eqb _ _ w.if-c-eq1.false)
-  ]
+]
