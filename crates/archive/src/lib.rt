@@ -1,7 +1,7 @@
 // Section 2 of document 01: the whole file, with the grid that is asked for.
 #![tactic(auto)]
 
-ghost use Rattle.std.specs.Prelude.{◌≡◌, ◌≤◌, ◌<◌, [], length, take, true, false, Some, None};
+ghost use Rattle.std.specs.Prelude.{◌≡◌, ◌≤◌, ◌<◌, [], length, true, false, Some, None};
 ghost use Rattle.fields.specs.Parse.{when};
 ghost use Rattle.fields.specs.Fields.{same_bytes};
 ghost use Rattle.fields.specs.Says.{says, says_answer};
@@ -27,17 +27,14 @@ pub struct AskedFile {
     pub grid: Option<GridDescriptor>,
 }
 
-// Whether two names are known to differ: by their lengths, or at one of the first n places.
-fn told_apart(a: &[u8], b: &[u8], places: &[usize; 64], n: usize) -> bool
-    requires { n ≤ 64 }
-    ensures differs { result ≡ true → false ≡ same_bytes a.now b.now }
-    ensures long { result ≡ false → length a.now ≡ length b.now }
+// Whether two names are known to differ: by their lengths, or at one of these places.
+fn told_apart(a: &[u8], b: &[u8], places: &[usize]) -> bool
+    ensures { result ≡ true → false ≡ same_bytes a.now b.now }
 {
     if a.len() != b.len() {
         return true;
     }
-    for p in &places[..n] {
-        let p = *p;
+    for &p in places {
         if p < a.len() && a[p] != b[p] {
             return true;
         }
@@ -51,7 +48,7 @@ fn same_name(a: &[u8], b: &[u8], places: &mut [usize; 64], n: usize) -> bool
     requires { n < 64 }
     ensures { result ≡ same_bytes a.now b.now }
 {
-    if told_apart(a, b, places, n) {
+    if told_apart(a, b, &places[..n]) {
         return false;
     }
     match fields::first_difference(a, b) {
@@ -63,33 +60,32 @@ fn same_name(a: &[u8], b: &[u8], places: &mut [usize; 64], n: usize) -> bool
     }
 }
 
-// Whether one of the first n names has these bytes.
-fn is_repeated(s: &[u8], names: [Span; 64], n: usize, name: &[u8], places: &mut [usize; 64]) -> bool
-    requires { n < 64 }
-    ensures { result ≡ repeated s.now name.now (take n names) }
+// Whether one of the earlier names has these bytes.
+fn is_repeated(s: &[u8], names: &[Span], name: &[u8], places: &mut [usize; 64]) -> bool
+    requires { length names.now < 64 }
+    ensures { result ≡ repeated s.now name.now names.now }
 {
-    for w in &names[..n] {
-        if same_name(fields::bytes_of(s, *w), name, places, n) {
+    for &w in names {
+        if same_name(fields::bytes_of(s, w), name, places, names.len()) {
             return true;
         }
     }
     false
 }
 
-// A descriptor that comes after those of the first n names: check 10 once its grid's metadata is read.
+// A descriptor that comes after those of the earlier names: check 10 once its grid's metadata is read.
 fn read_next(
     s: &[u8],
     h: ArchiveHeader,
-    names: [Span; 64],
-    n: usize,
+    names: &[Span],
     at: usize,
     places: &mut [usize; 64],
 ) -> Field<GridDescriptor>
-    requires { n < 64 }
-    ensures { says result ≡ next_field s.now h (take n names) at }
+    requires { length names.now < 64 }
+    ensures { says result ≡ next_field s.now h names.now at }
 {
     let (d, q) = descriptor::read_descriptor(s, h, at)?;
-    if is_repeated(s, names, n, fields::bytes_of(s, d.name), places) {
+    if is_repeated(s, names, fields::bytes_of(s, d.name), places) {
         return Err(ParseError::RepeatedGridName);
     }
     Ok((d, q))
@@ -140,7 +136,7 @@ fn read_grids(
     let mut p = at;
     for i in 0..h.grid_count {
         let n = i as usize;
-        let (d, q) = read_next(s, h, names, n, p, &mut places)?;
+        let (d, q) = read_next(s, h, &names[..n], p, &mut places)?;
         names[n] = d.name;
         found = newer(s, asked, name, i, d, found);
         p = q;
