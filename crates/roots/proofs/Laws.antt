@@ -6,8 +6,8 @@ use Prim.Native.Nat.{ℕ, zero, suc, ◌+◌, ◌*◌, ◌≤◌, ◌<◌}
 use native.Mathlib.Numerals.{add-one}
 use native.Mathlib.Omega.{arith}
 use lib.Dec.{leb}
-use lib.ListN.{length, get_or}
-use lib.Seq.{slice, slice-cons, slice_empty}
+use lib.ListN.{length, drop, get_or, drop_of_length-le}
+use lib.Seq.{drop-cons}
 use borrow.Author.Tests.{leb-true, leb-false, not-true}
 use Rattle.fields.specs.Parse.{got, fails, then, many, times, check}
 use Rattle.fields.specs.Fields.{u32_field, bytes_field}
@@ -114,19 +114,19 @@ head-end s limit at =
     then-always _ _ _ λ one p e. then-always _ _ _ λ background q e. then-always _ _ _ λ tiles r e. then-always _ _ _ λ roots t e.
     then-always _ _ _ λ passed n e. got-always _ _ _ refl
 
--- a coordinate among those from the k-th to the n-th: the k-th is it, or is not, or none is left
-module _ (o : GlobalCoord) (l : List GlobalCoord) (k n : ℕ) where
-  pub among-here : (d : GlobalCoord) → k < n → n ≤ length l → true ≡ same_coord (get_or l k d) o → true ≡ is_among o (slice k n l)
+-- a coordinate among those from the k-th on: the k-th is it, or is not, or none is left
+module _ (o : GlobalCoord) (l : List GlobalCoord) (k : ℕ) where
+  pub among-here : (d : GlobalCoord) → k < length l → true ≡ same_coord (get_or l k d) o → true ≡ is_among o (drop k l)
   unfolding is_among
-  among-here d h m e = rw (slice-cons k n l d h m, ← e)
+  among-here d h e = rw (drop-cons l k d h, ← e)
 
-  pub among_later : (d : GlobalCoord) → k < n → n ≤ length l → false ≡ same_coord (get_or l k d) o → is_among o (slice (k + 1) n l) ≡ is_among o (slice k n l)
+  pub among_later : (d : GlobalCoord) → k < length l → false ≡ same_coord (get_or l k d) o → is_among o (drop (k + 1) l) ≡ is_among o (drop k l)
   unfolding is_among
-  among_later d h m e = rw (slice-cons k n l d h m, add-one k, ← e)
+  among_later d h e = rw (add-one k, drop-cons l k d h, ← e)
 
-  pub among_none : k ≡ n → false ≡ is_among o (slice k n l)
+  pub among_none : length l ≤ k → false ≡ is_among o (drop k l)
   unfolding is_among
-  among_none e = rw (e, slice_empty n l)
+  among_none h = rw (drop_of_length-le l h)
 
 -- check 17, of the origin o that was read as v
 module _ {o : GlobalCoord} (v : IVec3) (earlier : List GlobalCoord) {ok : Bool} (p : ℕ) (e : o ≡ origin_of v) (k : ok ≡ (aligned 4096 o && not (is_among o earlier))) where

@@ -1,7 +1,7 @@
 // Document 01, section 4: what stands before a tree's roots, and a root's origin.
 #![tactic(auto)]
 
-ghost use Rattle.std.specs.Prelude.{◌≡◌, not, ◌&&◌, ◌≤◌, take};
+ghost use Rattle.std.specs.Prelude.{◌≡◌, not, ◌&&◌};
 ghost use Rattle.fields.specs.Says.{says, says_end};
 ghost use Rattle.coordinates.specs.Coordinates.{aligned};
 ghost use Rattle.roots.specs.Roots.{is_among, origin_field, tiles_field, tree_head_field};
@@ -55,13 +55,11 @@ pub fn read_tree_head(s: &[u8], limit: u32, at: usize) -> Field<TreeHead>
     Ok((head, roots_pos))
 }
 
-// Whether one of the first n origins is this one.
-fn is_among(origins: [GlobalCoord; 256], n: usize, o: GlobalCoord) -> bool
-    requires { n ≤ 256 }
-    ensures { result ≡ is_among o (take n origins) }
+// Whether one of these origins is this one.
+fn is_among(origins: &[GlobalCoord], o: GlobalCoord) -> bool
+    ensures { result ≡ is_among o origins.now }
 {
-    for k in 0..n {
-        let e = origins[k];
+    for &e in origins {
         if coordinates::same_coord(e, o) {
             return true;
         }
@@ -69,22 +67,20 @@ fn is_among(origins: [GlobalCoord; 256], n: usize, o: GlobalCoord) -> bool
     false
 }
 
-// Whether an origin may stand after the first n: its coordinates are multiples of 4096, and none of the others is it.
-fn is_new_origin(origins: [GlobalCoord; 256], n: usize, o: GlobalCoord) -> bool
-    requires { n ≤ 256 }
-    ensures { result ≡ (aligned 4096 o && not (is_among o (take n origins))) }
+// Whether an origin may stand after these: its coordinates are multiples of 4096, and none of the others is it.
+fn is_new_origin(origins: &[GlobalCoord], o: GlobalCoord) -> bool
+    ensures { result ≡ (aligned 4096 o && not (is_among o origins.now)) }
 {
-    coordinates::is_aligned(o, 4096) && !is_among(origins, n, o)
+    coordinates::is_aligned(o, 4096) && !is_among(origins, o)
 }
 
-// A root's origin, after n others.
-pub fn read_origin(s: &[u8], origins: [GlobalCoord; 256], n: usize, at: usize) -> Field<GlobalCoord>
-    requires { n ≤ 256 }
-    ensures { says result ≡ origin_field s.now (take n origins) at }
+// A root's origin, after these others.
+pub fn read_origin(s: &[u8], origins: &[GlobalCoord], at: usize) -> Field<GlobalCoord>
+    ensures { says result ≡ origin_field s.now origins.now at }
 {
     let (v, p) = fields::read_i_vec3(s, at)?;
     let o = coordinates::origin_of(v);
-    if !is_new_origin(origins, n, o) {
+    if !is_new_origin(origins, o) {
         return Err(ParseError::InvalidRootOrigin);
     }
     Ok((o, p))

@@ -58,7 +58,7 @@ pub fn pass_roots(s: &[u8], c: Coding, count: u32, at: usize) -> Result<usize, P
     let mut origins = [GlobalCoord(0, 0, 0); 256];
     let mut end = at;
     for i in 0..count as usize {
-        let (o, p) = roots::read_origin(s, origins, i, end)?;
+        let (o, p) = roots::read_origin(s, &origins[..i], end)?;
         end = pass_node5(s, c, p)?;
         origins[i] = o;
     }

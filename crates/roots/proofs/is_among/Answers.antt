@@ -7,11 +7,11 @@ use Rattle.roots.proofs.is_among.Goals as goal
 
 pub returns-then-same_coord : goal.returns-then-same_coord
 returns-then-same_coord c =
-    among-here c.args.o c.args.origins c.loop-k.k c.args.n _ (omega arith) (omega arith) (is_true c.if-same_coord.true c.same_coord.ensures) ∙ c.loop-k.invariant
+    among-here c.args.o c.args.origins.now c.loop-e.e-index _ (omega arith) (is_true c.if-same_coord.true c.same_coord.ensures) ∙ c.loop-e.invariant
 
-pub loop-k-preserved : goal.loop-k-preserved
-loop-k-preserved c =
-    among_later c.args.o c.args.origins c.loop-k.k c.args.n _ (omega arith) (omega arith) (is_false c.if-same_coord.false c.same_coord.ensures) ∙ c.loop-k.invariant
+pub loop-e-preserved : goal.loop-e-preserved
+loop-e-preserved c =
+    among_later c.args.o c.args.origins.now c.loop-e.e-index _ (omega arith) (is_false c.if-same_coord.false c.same_coord.ensures) ∙ c.loop-e.invariant
 
 pub returns : goal.returns
-returns c = among_none c.args.o c.args.origins c.loop-k.k c.args.n (omega arith) ∙ c.loop-k.invariant
+returns c = among_none c.args.o c.args.origins.now c.loop-e.e-index (omega arith) ∙ c.loop-e.invariant
