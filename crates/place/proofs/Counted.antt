@@ -2,13 +2,13 @@
 use mathlib.Core.Path.{◌≡◌, refl, ap, ◌∙◌}
 use mathlib.Core.List.{List, [], ◌∷◌, ◌++◌}
 use mathlib.Core.Bool.{Bool, true, false}
-use mathlib.Core.Option.{Option, some}
 use Prim.Native.Nat.{ℕ, ◌+◌, ◌-◌, ◌≤◌, ◌<◌}
 use native.Mathlib.Omega.{arith}
 use lib.Dec.{ltb, eqb}
 use lib.ListN.{length, take, length-append}
 use lib.Seq.{length-take-le, take_all}
 use borrow.Author.Tests.{lt-ltb, le-leb, lt-leb, eqb-true, eqb-false, ltb-true, ltb-false}
+use Rattle.std.proofs.Common.{Option, Some}
 use Rattle.fields.specs.Parse.{when}
 use Rattle.half.specs.Inner.{IsWidth}
 use Rattle.forms.specs.declared.Coding.{Coding}
@@ -54,7 +54,7 @@ module _ (s : List ℕ) (c : Coding) (wide : IsWidth c.width) where
   abbrev Leads : List Stop → ℕ → Option ℕ → Type 0
   Leads ts k r =
       (x : Cursor) (want : ℕ) (h : Handed) → h.whole ≡ true → length h.records < want → want ≤ length (course s c want h x (listing s ts)).records →
-      behind_of s c (skipping s (want - length h.records - 1) k ts r) ≡ some (stand_of (course s c want h x (listing s ts)))
+      behind_of s c (skipping s (want - length h.records - 1) k ts r) ≡ Some (stand_of (course s c want h x (listing s ts)))
 
   module _ (t : Stop) (ts : List Stop) (k : ℕ) (r : Option ℕ) (few : leaves_in (t ∷ ts) ≤ k) (later : Leads ts (k - leaf_count t.piece) r) where
     -- the next piece lists nothing
@@ -68,14 +68,14 @@ module _ (s : List ℕ) (c : Coding) (wide : IsWidth c.width) where
     in-piece :
         HeldPiece s c t.piece → (want : ℕ) → 0 < want → let h = hand_piece s c want (entered t.piece) in
         want ≤ length (course s c want h t.behind (listing s ts)).records →
-        behind_of s c (skipping s (want - 1) k (t ∷ ts) r) ≡ some (stand_of (course s c want h t.behind (listing s ts)))
+        behind_of s c (skipping s (want - 1) k (t ∷ ts) r) ≡ Some (stand_of (course s c want h t.behind (listing s ts)))
     in-piece held want l m = go (own-records s c t.piece held want) (ltb (record_count s t.piece) want) refl
       where
         h : Handed
         h = hand_piece s c want (entered t.piece)
 
         go : (h.records ≡ take want (records_of s c t.piece)) × (h.whole ≡ true) → (b : Bool) → ltb (record_count s t.piece) want ≡ b →
-            behind_of s c (skipping s (want - 1) k (t ∷ ts) r) ≡ some (stand_of (course s c want h t.behind (listing s ts)))
+            behind_of s c (skipping s (want - 1) k (t ∷ ts) r) ≡ Some (stand_of (course s c want h t.behind (listing s ts)))
         go own true b =
             let i = ltb-true (record_count s t.piece) want b in
             let n : length h.records ≡ record_count s t.piece = ap length (own.0 ∙ take_all want _ (omega (arith, i, many s c t.piece))) ∙ many s c t.piece in
@@ -110,6 +110,6 @@ module _ (s : List ℕ) (c : Coding) (wide : IsWidth c.width) where
   pub leads-on :
       (x : Cursor) → x.roots_left < 4294967296 → (want : ℕ) (h : Handed) → h.whole ≡ true → length h.records < want →
       want ≤ length (course s c want h x (listing_from s c x)).records →
-      behind_of s c (skip_from s c (want - length h.records - 1) 18446744073709551615 x) ≡ some (stand_of (course s c want h x (listing_from s c x)))
+      behind_of s c (skip_from s c (want - length h.records - 1) 18446744073709551615 x) ≡ Some (stand_of (course s c want h x (listing_from s c x)))
   leads-on x small want h w l m =
       leads (to_come s c x).items x _ (to_come s c x).refusal refl (omega (arith, cursor-leaves s c x)) x want h w l m

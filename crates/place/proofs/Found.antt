@@ -2,13 +2,13 @@
 use mathlib.Core.Path.{◌≡◌, refl, sym, ap, subst, ◌∙◌}
 use mathlib.Core.List.{List, [], ◌∷◌}
 use mathlib.Core.Bool.{Bool, true, false, true≢false}
-use mathlib.Core.Option.{Option, none, some}
 use Prim.Native.Nat.{ℕ, ◌+◌, ◌-◌, ◌*◌, ◌≤◌, ◌<◌}
 use native.Mathlib.Nat.{sub-zero}
 use native.Mathlib.Omega.{arith}
 use lib.Dec.{leb}
 use lib.ListN.{length}
 use borrow.Author.Tests.{le-leb}
+use Rattle.std.proofs.Common.{Option, None, Some, Ok}
 use Rattle.fields.specs.Parse.{when}
 use Rattle.half.specs.Inner.{IsWidth}
 use Rattle.coordinates.specs.Coordinates.{places}
@@ -32,10 +32,8 @@ use Rattle.skip.specs.Inner.{before, skip_from}
 use Rattle.skip.proofs.Laws.{leaves_in, Stops, skip-stops}
 use Rattle.skip.proofs.Few.{cursor-leaves}
 use Rattle.nth.specs.Inner.{HasOne, BehindOne}
-use Rattle.place.specs.Inner.{entered, at_place, listing_from, hand_on, moved, stand_of, behind_of, Stands, behind, within, EndsAt, Walking, Steps}
+use Rattle.place.specs.Inner.{entered, at_place, listing_from, hand_on, moved, stand_of, behind_of, Stands, behind, within, EndsAt, Steps}
 use Rattle.place.specs.declared.Place.{Place}
-use Rattle.place.specs.declared.StepAnswer.TheVariants.{At as StepAt, Refused as StepRefused}
-use Rattle.place.proofs.Laws.{some_same}
 use Rattle.place.proofs.Piece.{inside-there, left_is, whole-there, all_there, some-there, stands-there}
 use Rattle.place.proofs.Cut.{course-full}
 use Rattle.place.proofs.Counted.{leads-on}
@@ -67,12 +65,12 @@ module _ (s : List ℕ) (c : Coding) (wide : IsWidth c.width) (x : Cursor) (smal
   has_there d =
       rw d record { child = stops.held.held.child-mask; value = stops.held.held.value-mask; more = rw (masked q.level).bits more-there }
 
-  pub behind-there : {w r : Inside} → w ≡ entered q → BehindOne s w n r → some (y, r) ≡ behind_of s c (skip_from s c m 18446744073709551615 x)
+  pub behind-there : {w r : Inside} → w ≡ entered q → BehindOne s w n r → Some (y, r) ≡ behind_of s c (skip_from s c m 18446744073709551615 x)
   unfolding ones_from
   behind-there d b =
       let l : 0 < places (edge_of q.level) = omega (arith, more-there, count-le (mask_bit s q.value) (places (edge_of q.level))) in
       let f = stands-there s c q stops.held 0 l n (omega arith) (rw d at b) in
-      ap (λ (w : Inside). some (y, w)) (f ∙ ap (λ (j : ℕ). (hand_piece s c j (entered q)).inside) (sub-zero (n + 1))) ∙ ap (behind_of s c) e
+      ap (λ (w : Inside). Some (y, w)) (f ∙ ap (λ (j : ℕ). (hand_piece s c j (entered q)).inside) (sub-zero (n + 1))) ∙ ap (behind_of s c) e
 
 -- The records of the piece that a walk stands in: how many it has passed, and how many are left of it.
 abbrev pub passed_in : List ℕ → Inside → ℕ
@@ -133,7 +131,7 @@ module _ (s : List ℕ) (c : Coding) (wide : IsWidth c.width) (k : ℕ) (x : Cur
   -- j records are handed out of its piece, and the others are counted
   ends_by :
       {j : ℕ} {b : Option (Cursor × Inside)} → x.roots_left < 4294967296 → (hand_piece s c k w).whole ≡ true → length (hand_piece s c k w).records ≡ j → j < k →
-      b ≡ behind_of s c (skip_from s c (k - j - 1) 18446744073709551615 x) → k ≤ length (hand_on s c k x w).records → b ≡ some (stand_of (hand_on s c k x w))
+      b ≡ behind_of s c (skip_from s c (k - j - 1) 18446744073709551615 x) → k ≤ length (hand_on s c k x w).records → b ≡ Some (stand_of (hand_on s c k x w))
   ends_by small f z l d m =
       d ∙ ap (λ (j : ℕ). behind_of s c (skip_from s c (k - j - 1) 18446744073709551615 x)) (sym z)
       ∙ leads-on s c wide x small k (hand_piece s c k w) f (rw z l) m
@@ -154,18 +152,18 @@ module _ (s : List ℕ) (c : Coding) (wide : IsWidth c.width) (k : ℕ) (x : Cur
     there : Stands s c w → InPiece s c k w
     there st = in-piece s c k w st (omega (arith, e, g))
 
-    pub ends-outside : false ≡ is_inside s w → EndsAt s c k x w none
+    pub ends-outside : false ≡ is_inside s w → EndsAt s c k x w None
     ends-outside f st m = absurd (true≢false ((there st).inside ∙ sym f))
 
     module _ {passed left : ℕ} (d : passed ≡ passed_in s w) (j : left ≡ left_in s w) where
       pub ends-later : {b : Option (Cursor × Inside)} → x.roots_left < 4294967296 → left < k → b ≡ behind_of s c (skip_from s c (k - left - 1) 18446744073709551615 x) → EndsAt s c k x w b
       ends-later small l h st m = ends_by small (there st).whole ((there st).all (omega (arith, j, l)) ∙ sym j) l h m
 
-      pub ends-here : 0 < k → k ≤ left → {r : Inside} → BehindOne s w (passed + (k - 1)) r → EndsAt s c k x w (some (x, r))
+      pub ends-here : 0 < k → k ≤ left → {r : Inside} → BehindOne s w (passed + (k - 1)) r → EndsAt s c k x w (Some (x, r))
       ends-here i l b st m =
           let h = there st in
           let n = h.enough (omega (arith, j, l)) in
-          rw (course-full s c k (hand_piece s c k w) x (listing_from s c x) n) (ap (λ (w : Inside). some (x, w)) (h.stands i (rw d at b)))
+          rw (course-full s c k (hand_piece s c k w) x (listing_from s c x) n) (ap (λ (w : Inside). Some (x, w)) (h.stands i (rw d at b)))
 
 -- where nothing is wanted the walk stays
 module _ (s : List ℕ) (c : Coding) (x : Cursor) (w : Inside) where
@@ -181,23 +179,12 @@ module _ (s : List ℕ) (c : Coding) (x : Cursor) (w : Inside) where
   pub stays : stand_of (hand_on s c 0 x w) ≡ (x, w)
   stays = ap stand_of (course-full s c 0 (hand_piece s c 0 w) x (listing_from s c x) (ap length none-handed.0)) ∙ ap (λ (w : Inside). (x, w)) none-handed.1
 
--- A step: nothing is to be passed, or the walk's words are none, or it stands behind the records that are passed.
+-- A step where nothing is to be passed.
 module _ (s : List ℕ) (p : Place) {k : ℕ} where
-  pub steps-none : k ≡ 0 → Steps s p k (StepAt p)
+  pub steps-none : k ≡ 0 → Steps s p k (Ok p)
   steps-none z =
       let f = stays s p.start.coding p.cursor p.inside in
-      subst (λ (k : ℕ). Steps s p k (StepAt p)) (sym z) record {
-        reached = λ w. ap StepAt (λ i. moved p (sym (sub-zero p.left) i) (sym f i).0 (sym f i).1);
+      subst (λ (k : ℕ). Steps s p k (Ok p)) (sym z) record {
+        reached = λ w. ap (λ (q : Place). Ok q) (λ i. moved p (sym (sub-zero p.left) i) (sym f i).0 (sym f i).1);
         any = λ i. moved p (sym (sub-zero p.left) i) p.cursor p.inside;
       }
-
-  pub steps-22 : (Walking s p k → ⊥) → Steps s p k (StepRefused 22)
-  steps-22 never = record { reached = λ w. absurd (never w); any = refl }
-
-  pub steps-at :
-      {q : Place} {y : Cursor} {v : Inside} → q ≡ moved p (p.left - k) y v →
-      EndsAt s p.start.coding k p.cursor p.inside (some (y, v)) → Steps s p k (StepAt q)
-  steps-at d ends = record {
-    reached = λ w. ap StepAt (d ∙ (let f = some_same (ends w.stands w.listed) in λ i. moved p (p.left - k) (f i).0 (f i).1));
-    any = d ∙ (λ i. moved p (p.left - k) (sym d i).cursor (sym d i).inside);
-  }

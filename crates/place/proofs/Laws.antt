@@ -2,17 +2,21 @@
 use mathlib.Core.Path.{◌≡◌, refl, sym, ap, ap₂, subst, ◌∙◌}
 use mathlib.Core.List.{List, [], ◌∷◌}
 use mathlib.Core.Bool.{Bool, true, false, ◌&&◌}
-use mathlib.Core.Option.{none, some}
 use Prim.Native.Nat.{ℕ, suc, ◌+◌, ◌-◌, ◌≤◌, ◌<◌}
 use native.Mathlib.Nat.{sub-zero}
 use native.Mathlib.Omega.{arith}
 use lib.Dec.{ltb}
 use lib.ListN.{length, length-append}
 use borrow.Author.Tests.{lt-ltb, le-ltb, ltb-true, ltb-false}
+use Rattle.std.proofs.Common.{Option, None, Some, Result}
+use Rattle.std.specs.Result.{IsErrAnd}
+use Rattle.std.proofs.lemmas.Result.{err_from_is_err_and}
+use Rattle.fields.specs.declared.ParseError.{ParseError}
 use Rattle.fields.specs.Parse.{when}
 use Rattle.forms.specs.declared.Coding.{Coding}
 use Rattle.cursor.specs.Inner.{Stop}
 use Rattle.cursor.specs.declared.Cursor.{Cursor}
+use Rattle.cursor.specs.declared.Piece.{Piece as CodePiece}
 use Rattle.slots.specs.Slots.{Slots, laid_from}
 use Rattle.bits.specs.Inner.{Handed, Fills}
 use Rattle.records.specs.Inner.{hand_piece}
@@ -20,7 +24,7 @@ use Rattle.slots.specs.declared.Inside.{Inside}
 use Rattle.bits.specs.declared.Run.{Run}
 use Rattle.slots.proofs.Laws.{laid-append, laid_same, Same, same}
 use Rattle.half.specs.Inner.{IsWidth}
-use Rattle.place.specs.Inner.{Course, stopped, join, listing_from, course, hand_on, entered, next_stand, HandedOn}
+use Rattle.place.specs.Inner.{Course, stopped, join, listing_from, course, hand_on, entered, says_listed, next_stand, HandedOn}
 use Rattle.place.specs.declared.Stand.{Stand}
 use Rattle.place.proofs.Listing.{first-listed}
 
@@ -34,31 +38,37 @@ pub record Coming (i : ℕ) (a : Course) (t : Slots) (A : Course) (t₀ : Slots)
 pub comes : (s : List ℕ) (c : Coding) (limit : ℕ) (x : Cursor) (w : Inside) (t₀ : Slots) → Coming 0 (hand_on s c (limit - 0) x w) t₀ (hand_on s c limit x w) t₀
 comes s c limit x w t₀ = rw (sub-zero limit) record { cursor = refl; inside = refl; filled = omega arith; slots = refl }
 
-pub none-some : {A : Type 0} {a : A} → none ≡ some a → ⊥
+pub none-some : {A : Type 0} {a : A} → None ≡ Some a → ⊥
 none-some e = let z : ◌≡◌ {A = ℕ} 0 1 = cc in absurd (omega arith)
 
-pub some_same : {A : Type 0} {a b : A} → some a ≡ some b → a ≡ b
+pub some_same : {A : Type 0} {a b : A} → Some a ≡ Some b → a ≡ b
 some_same e = cc
 
+-- the refusal that a `?` hands on
+pub listed-refused :
+    (s : List ℕ) (c : Coding) (r : Result (Option (CodePiece × Cursor)) ParseError) (e : ParseError) {x : List Stop} → IsErrAnd r (λ d. d ≡ e) → [] ≡ x →
+    says_listed s c r ≡ x
+listed-refused s c r e h k = let p = err_from_is_err_and r h in ap (says_listed s c) p.1 ∙ k
+
 -- the next piece, by the tests and by what is to come
-pub not-whole : (filled limit : ℕ) (ts : List Stop) {b : Bool} → b ≡ false → none ≡ next_stand b filled limit ts
+pub not-whole : (filled limit : ℕ) (ts : List Stop) {b : Bool} → b ≡ false → None ≡ next_stand b filled limit ts
 unfolding next_stand when
 not-whole filled limit [] e = refl
 not-whole filled limit (t ∷ ts) e = rw e
 
-pub all-filled : (b : Bool) (filled limit : ℕ) (ts : List Stop) → limit ≤ filled → none ≡ next_stand b filled limit ts
+pub all-filled : (b : Bool) (filled limit : ℕ) (ts : List Stop) → limit ≤ filled → None ≡ next_stand b filled limit ts
 unfolding next_stand when
 all-filled b filled limit [] l = refl
 all-filled true filled limit (t ∷ ts) l = rw (le-ltb _ _ l)
 all-filled false filled limit (t ∷ ts) l = refl
 
-pub none-to-come : (b : Bool) (filled limit : ℕ) (ts : List Stop) → [] ≡ ts → none ≡ next_stand b filled limit ts
+pub none-to-come : (b : Bool) (filled limit : ℕ) (ts : List Stop) → [] ≡ ts → None ≡ next_stand b filled limit ts
 unfolding next_stand
 none-to-come b filled limit ts e = rw (← e)
 
 pub stands-next :
     {b : Bool} (filled limit : ℕ) {t : Stop} {ts us : List Stop} {w : Inside} → b ≡ true → filled < limit → t ∷ ts ≡ us → w ≡ entered t.piece →
-    some (record { cursor = t.behind; inside = w; filled = filled }) ≡ next_stand b filled limit us
+    Some (record { cursor = t.behind; inside = w; filled = filled }) ≡ next_stand b filled limit us
 unfolding next_stand when
 stands-next filled limit e l d f = rw (← d, e, lt-ltb _ _ l, f)
 
@@ -83,16 +93,16 @@ module _ (s : List ℕ) (c : Coding) (limit : ℕ) (x : Cursor) (w : Inside) {i 
   same_test = ap₂ (λ (a b : Bool). a && b) (sym f.whole) (below_less (length own.records) i limit ∙ ap (λ (n : ℕ). ltb n limit) (sym f.filled))
 
   -- the walk stops there
-  stopping : (ts : List Stop) → none ≡ next_stand r.whole r.filled limit ts → course s c (limit - i) own x ts ≡ stopped own x
+  stopping : (ts : List Stop) → None ≡ next_stand r.whole r.filled limit ts → course s c (limit - i) own x ts ≡ stopped own x
   unfolding course next_stand when
   stopping [] e = refl
   stopping (t ∷ ts) e = rw same_test (go _ _ (r.whole && ltb r.filled limit) e)
     where
-      go : (y : Course) (v : Stand) (b : Bool) → none ≡ when b (some v) none → when b y (stopped own x) ≡ stopped own x
+      go : (y : Course) (v : Stand) (b : Bool) → None ≡ when b (Some v) None → when b y (stopped own x) ≡ stopped own x
       go y v true e = absurd (none-some e)
       go y v false e = refl
 
-  pub stops_so : none ≡ next_stand r.whole r.filled limit (listing_from s c x) → HandedOn A t₀ t' (record { cursor = x; inside = r.inside; filled = r.filled })
+  pub stops_so : None ≡ next_stand r.whole r.filled limit (listing_from s c x) → HandedOn A t₀ t' (record { cursor = x; inside = r.inside; filled = r.filled })
   stops_so e = go (rw (stopping _ e) at g)
     where
       go : Coming i (stopped own x) t A t₀ → HandedOn A t₀ t' (record { cursor = x; inside = r.inside; filled = r.filled })
@@ -109,12 +119,12 @@ module _ (s : List ℕ) (c : Coding) (limit : ℕ) (x : Cursor) (w : Inside) {i 
       }
 
   pub goes-next :
-      IsWidth c.width → {v : Stand} → some v ≡ next_stand r.whole r.filled limit (listing_from s c x) →
+      IsWidth c.width → {v : Stand} → Some v ≡ next_stand r.whole r.filled limit (listing_from s c x) →
       Coming v.filled (hand_on s c (limit - v.filled) v.cursor v.inside) t' A t₀ × (length (listing_from s c v.cursor) < length (listing_from s c x))
   unfolding course next_stand when
   goes-next wide {v} e = go (listing_from s c x) refl e g
     where
-      go : (ts : List Stop) → ts ≡ listing_from s c x → some v ≡ next_stand r.whole r.filled limit ts → Coming i (course s c (limit - i) own x ts) t A t₀ →
+      go : (ts : List Stop) → ts ≡ listing_from s c x → Some v ≡ next_stand r.whole r.filled limit ts → Coming i (course s c (limit - i) own x ts) t A t₀ →
           Coming v.filled (hand_on s c (limit - v.filled) v.cursor v.inside) t' A t₀ × (length (listing_from s c v.cursor) < length ts)
       go [] d e g = absurd (none-some (sym e))
       go (t ∷ ts) d e g = tested (r.whole && ltb r.filled limit) same_test e
@@ -128,7 +138,7 @@ module _ (s : List ℕ) (c : Coding) (limit : ℕ) (x : Cursor) (w : Inside) {i 
           here : Stand
           here = record { cursor = t.behind; inside = entered t.piece; filled = r.filled }
 
-          tested : (b : Bool) → (own.whole && ltb (length own.records) (limit - i)) ≡ b → some v ≡ when b (some here) none →
+          tested : (b : Bool) → (own.whole && ltb (length own.records) (limit - i)) ≡ b → Some v ≡ when b (Some here) None →
               Coming v.filled (hand_on s c (limit - v.filled) v.cursor v.inside) t' A t₀ × (length (listing_from s c v.cursor) < suc (length ts))
           tested true j e =
               let b = ap length behind in

@@ -1,16 +1,18 @@
 -- The pieces that list a record: the first one that a cursor still hands out, and what all of them list.
 use mathlib.Core.Path.{◌≡◌, refl, sym, ap, ◌∙◌}
 use mathlib.Core.List.{List, [], ◌∷◌, ◌++◌, map, flat_map}
-use mathlib.Core.Bool.{Bool, true, false, ◌&&◌}
-use mathlib.Core.Option.{Option, none, some}
+use mathlib.Core.Bool.{Bool, true, false, ◌&&◌, true≢false}
 use Prim.Native.Nat.{ℕ, ◌-◌, ◌*◌, ◌≤◌, ◌<◌}
 use native.Mathlib.Omega.{arith}
 use lib.Dec.{leb, eqb}
 use lib.ListN.{length, length-map}
 use borrow.Author.Tests.{eqb-true, eqb-false, ne_eqb, le-leb, lt-leb}
+use Rattle.std.proofs.Common.{Option, None, Some}
+use Rattle.std.specs.Option.{is_some}
 use Rattle.fields.specs.Parse.{when}
 use Rattle.half.specs.Inner.{IsWidth}
 use Rattle.coordinates.specs.Coordinates.{places}
+use Rattle.coordinates.specs.declared.Index.{Index}
 use Rattle.masks.specs.Masks.{mask_bit, ones, count_below}
 use Rattle.masks.specs.Inner.{IsMask, next_one}
 use Rattle.masks.proofs.Laws.{ones_none, count-strict, next-lt, next_one_lem, next-none-count}
@@ -27,6 +29,11 @@ use Rattle.skip.specs.Inner.{Skip, before, ended, refused, skipping, skip_from}
 use Rattle.skip.proofs.Laws.{leaves_in}
 use Rattle.skip.proofs.Few.{cursor-leaves}
 use Rattle.place.specs.Inner.{listing, listing_from}
+
+-- what tells that there is one
+pub some-one : {A : Type 0} (o : Option A) → is_some o ≡ true → (a : A) × (Some a ≡ o)
+some-one None e = absurd (true≢false (sym e))
+some-one (Some a) e = (a, refl)
 
 module _ (s : List ℕ) (c : Coding) where
   -- a piece lists as many records as its value mask has ones
@@ -105,13 +112,13 @@ module _ (s : List ℕ) (c : Coding) (wide : IsWidth c.width) where
       bits : {n : ℕ} → n ≡ mask_bytes q.level → 8 * n ≡ places (edge_of q.level)
       bits e = rw e (masked q.level).bits
 
-      pub listed_here : {n p : ℕ} → n ≡ mask_bytes q.level → some p ≡ next_one active (8 * n) 0 → record { piece = q; behind = y } ∷ listing_from s c y ≡ listing_from s c x
+      pub listed_here : {n : ℕ} {p : Index} → n ≡ mask_bytes q.level → Some p ≡ next_one active (8 * n) 0 → record { piece = q; behind = y } ∷ listing_from s c y ≡ listing_from s c x
       unfolding listing when
       listed_here {n} {p} e f =
-          let l = count-strict active p (8 * n) (next_one_lem active (8 * n) 0 p (sym f)) (next-lt active (8 * n) 0 p (sym f)) in
+          let l = count-strict active p.0 (8 * n) (next_one_lem active (8 * n) 0 p (sym f)) (next-lt active (8 * n) 0 p (sym f)) in
           rw (← d, ne_eqb (record_count s q) 0 (λ z. omega (arith, rw (bits e) at l)))
 
-      pub listed-later : {n : ℕ} → n ≡ mask_bytes q.level → none ≡ next_one active (8 * n) 0 → listing_from s c y ≡ listing_from s c x
+      pub listed-later : {n : ℕ} → n ≡ mask_bytes q.level → None ≡ next_one active (8 * n) 0 → listing_from s c y ≡ listing_from s c x
       unfolding listing when
       listed-later {n} e f =
           let z : count_below active (8 * n) ≡ 0 = next-none-count active (8 * n) 0 (omega arith) (sym f) ∙ ap length (ones_none active 0) in
@@ -137,8 +144,8 @@ module _ (s : List ℕ) (c : Coding) (wide : IsWidth c.width) where
 
   found_from : (ts : List Stop) (x : Cursor) (k : ℕ) (r : Option ℕ) → ts ≡ (to_come s c x).items → leaves_in ts ≤ k → found_at (skipping s 0 k ts r) ≡ listing s ts
   unfolding skipping listing
-  found_from [] x k none e l = refl
-  found_from [] x k (some j) e l = refl
+  found_from [] x k None e l = refl
+  found_from [] x k (Some j) e l = refl
   found_from (t ∷ ts) x k r e l =
       let f = first-stop x e in
       found-step t ts k r l f.1 (found_from ts t.behind (k - leaf_count t.piece) r f.1)

@@ -8,7 +8,9 @@ use lib.Dec.{ltb, lit≤}
 use lib.ListN.{length, take, drop, length-drop}
 use lib.Seq.{length-take-le}
 use borrow.Author.Tests.{lt-ltb}
+use Rattle.std.proofs.Common.{Result, Ok}
 use Rattle.fields.specs.Parse.{when}
+use Rattle.fields.specs.declared.ParseError.{ParseError}
 use Rattle.coordinates.specs.Coordinates.{places}
 use Rattle.half.specs.Inner.{IsWidth}
 use Rattle.masks.specs.Masks.{ones_from}
@@ -25,9 +27,8 @@ use Rattle.cursor.specs.Inner.{Stop, HeldPiece}
 use Rattle.cursor.specs.declared.Cursor.{Cursor}
 use Rattle.cursor.proofs.Whole.{fresh}
 use Rattle.place.specs.Inner.{Course, entered, nowhere, stopped, join, listing_from, course, hand_on, fresh_place, moved, place_from, at_place, Stands, behind, within, Walking, walked_on, Steps}
+use Rattle.place.specs.declared.Place.{Place}
 use Rattle.place.specs.declared.Start.{Start}
-use Rattle.place.specs.declared.StepAnswer.{StepAnswer}
-use Rattle.place.specs.declared.StepAnswer.TheVariants.{At as StepAt}
 use Rattle.place.proofs.Own.{kept-number, keeps, active, in-room, all-places}
 use Rattle.place.proofs.Listing.{first-listed}
 use Rattle.place.proofs.Places.{after-records, after_more}
@@ -104,9 +105,9 @@ module _ {s : List ℕ} (g : Start) {roots : List Node5} {filled : List Filled5}
   unfolding place_from
   left_after m = refl
 
-  pub step_after : (m n : ℕ) {r : StepAnswer} → m ≤ g.length → let p = place_from s g m in Steps s p (min n p.left) r → r ≡ StepAt (place_from s g (min (m + n) g.length))
+  pub step_after : (m n : ℕ) {r : Result Place ParseError} → m ≤ g.length → let p = place_from s g m in Steps s p (min n p.left) r → r ≡ Ok (place_from s g (min (m + n) g.length))
   step_after m n l h =
       let k = min n (place_from s g m).left in
       let few : m + k ≤ g.length = omega (arith, left_after m) in
       let e : m + k ≡ min (m + n) g.length = omega (arith, left_after m) in
-      h.reached (walking m k few) ∙ ap StepAt (walked m k few ∙ ap (place_from s g) e)
+      h.reached (walking m k few) ∙ ap (λ (q : Place). Ok q) (walked m k few ∙ ap (place_from s g) e)

@@ -1,9 +1,10 @@
 -- Inner matter: only contracts of inner functions cite it, and nothing here has to be believed.
 -- What a walk hands out from where it stands, whatever its words are, piece after piece. That from a grid's start on this is the grid's active list,
 -- and that it does not matter how the calls are cut, is proved in proofs/List.antt and proofs/Cut.antt.
-use Rattle.std.specs.Prelude.{ℕ, ◌+◌, ◌-◌, ◌*◌, ◌≤◌, ◌≡◌, List, [], ◌∷◌, ◌++◌, Bool, ◌&&◌, eqb, ltb, pos, length}
-use Rattle.std.proofs.Math.Option.{Option, none, some}
+use Rattle.std.specs.Prelude.{ℕ, ◌+◌, ◌-◌, ◌*◌, ◌≤◌, ◌≡◌, List, [], ◌∷◌, ◌++◌, Bool, ◌&&◌, eqb, ltb, pos, length, Option, None, Some, Result, Ok, Err}
 use Rattle.fields.specs.Parse.{when}
+use Rattle.fields.specs.declared.ParseError.{ParseError}
+use Rattle.fields.specs.declared.ParseError.TheVariants.{ForeignPlace}
 use Rattle.half.specs.Inner.{IsWidth}
 use Rattle.runs.specs.Runs.{number_of}
 use Rattle.forms.specs.declared.Coding.{Coding}
@@ -18,18 +19,11 @@ use Rattle.records.specs.Inner.{hand_piece}
 use Rattle.slots.specs.declared.Inside.{Inside}
 use Rattle.cursor.specs.Inner.{Stop, between_roots, to_come, piece_of, HeldPiece}
 use Rattle.cursor.specs.declared.Cursor.{Cursor}
-use Rattle.cursor.specs.declared.NextPiece.{NextPiece}
-use Rattle.cursor.specs.declared.NextPiece.TheVariants.{At, End, Refused}
+use Rattle.cursor.specs.declared.Piece.{Piece as CodePiece}
 use Rattle.skip.specs.Inner.{Skip, before, ended, refused}
 use Rattle.place.specs.declared.Start.{Start}
 use Rattle.place.specs.declared.Place.{Place}
 use Rattle.place.specs.declared.Stand.{Stand}
-use Rattle.place.specs.declared.Behind.{Behind}
-use Rattle.place.specs.declared.Behind.TheVariants.{At as BehindAt, Nothing as BehindNothing}
-use Rattle.place.specs.declared.StepAnswer.{StepAnswer}
-use Rattle.place.specs.declared.StepAnswer.TheVariants.{At as StepAt, Refused as StepRefused}
-use Rattle.place.specs.declared.NextStand.{NextStand}
-use Rattle.place.specs.declared.NextStand.TheVariants.{At as StandsAt, Nothing as StandsNowhere}
 
 -- which places of a piece are stored, as the number that a walk keeps
 abbrev pub stored_number : Stored → ℕ
@@ -96,19 +90,15 @@ abbrev pub moved : Place → ℕ → Cursor → Inside → Place
 moved p left x w = record { start = p.start; left = left; cursor = x; inside = w }
 
 -- what the code's answer says: the next piece that lists a record, and what the cursor behind it still hands out; or nothing, refused or not
-abbrev pub says_listed : List ℕ → Coding → NextPiece → List Stop
-says_listed s c (At q x) = record { piece = piece_of q; behind = x } ∷ listing_from s c x
-says_listed s c End = []
-says_listed s c (Refused k) = []
+abbrev pub says_listed : List ℕ → Coding → Result (Option (CodePiece × Cursor)) ParseError → List Stop
+says_listed s c (Ok (Some (q, x))) = record { piece = piece_of q; behind = x } ∷ listing_from s c x
+says_listed s c (Ok None) = []
+says_listed s c (Err e) = []
 
 -- where the walk stands in the next piece, if it goes on: all was whole, slots are left, and a piece is to come
 unfoldable pub next_stand : Bool → ℕ → ℕ → List Stop → Option Stand
-next_stand whole filled limit [] = none
-next_stand whole filled limit (t ∷ ts) = when (whole && ltb filled limit) (some (record { cursor = t.behind; inside = entered t.piece; filled = filled })) none
-
-abbrev pub says_stand : NextStand → Option Stand
-says_stand (StandsAt v) = some v
-says_stand StandsNowhere = none
+next_stand whole filled limit [] = None
+next_stand whole filled limit (t ∷ ts) = when (whole && ltb filled limit) (Some (record { cursor = t.behind; inside = entered t.piece; filled = filled })) None
 
 -- what the code's answer says: the slots hold what is handed out, from the first one on
 pub record HandedOn (a : Course) (before after : Slots) (r : Stand) : Type 0 where
@@ -133,23 +123,19 @@ pub data Stands (s : List ℕ) (c : Coding) : Inside → Type 0 where
   behind : {w : Inside} → 8 * mask_bytes w.level ≤ w.from → Stands s c w
   within : {w : Inside} (q : Piece) (p : ℕ) → HeldPiece s c q → w ≡ at_place s q p → Stands s c w
 
--- where a course ends, and what the code's answer says of it
+-- where a course ends
 abbrev pub stand_of : Course → Cursor × Inside
 stand_of a = (a.cursor, a.inside)
 
-abbrev pub says_behind : Behind → Option (Cursor × Inside)
-says_behind (BehindAt x w) = some (x, w)
-says_behind BehindNothing = none
-
 -- Behind the next record, when pieces were passed: it is in the first piece that did not fit, and of its records so many come before it.
 abbrev pub behind_of : List ℕ → Coding → Skip → Option (Cursor × Inside)
-behind_of s c (before t n k) = some (t.behind, (hand_piece s c (n + 1) (entered t.piece)).inside)
-behind_of s c (ended n k) = none
-behind_of s c (refused j) = none
+behind_of s c (before t n k) = Some (t.behind, (hand_piece s c (n + 1) (entered t.piece)).inside)
+behind_of s c (ended n k) = None
+behind_of s c (refused j) = None
 
 -- b is where a walk that can stand so, and has k records before it, ends behind them
 abbrev pub EndsAt : List ℕ → Coding → ℕ → Cursor → Inside → Option (Cursor × Inside) → Type 0
-EndsAt s c k x w b = Stands s c w → k ≤ length (hand_on s c k x w).records → b ≡ some (stand_of (hand_on s c k x w))
+EndsAt s c k x w b = Stands s c w → k ≤ length (hand_on s c k x w).records → b ≡ Some (stand_of (hand_on s c k x w))
 
 -- The walk of a place over the bytes s stands, and has k records before it.
 pub record Walking (s : List ℕ) (p : Place) (k : ℕ) : Type 0 where
@@ -165,11 +151,11 @@ walked_on s p k = moved p (p.left - k) a.cursor a.inside
     a = hand_on s p.start.coding k p.cursor p.inside
 
 -- whatever the words are: the same walk with k fewer records left, or 22
-abbrev pub StepsOr22 : Place → ℕ → StepAnswer → Type 0
-StepsOr22 p k (StepAt q) = q ≡ moved p (p.left - k) q.cursor q.inside
-StepsOr22 p k (StepRefused j) = j ≡ 22
+abbrev pub StepsOr22 : Place → ℕ → Result Place ParseError → Type 0
+StepsOr22 p k (Ok q) = q ≡ moved p (p.left - k) q.cursor q.inside
+StepsOr22 p k (Err e) = e ≡ ForeignPlace
 
 -- A step over k records from the place p.
-pub record Steps (s : List ℕ) (p : Place) (k : ℕ) (r : StepAnswer) : Type 0 where
-  pub reached : Walking s p k → r ≡ StepAt (walked_on s p k)
+pub record Steps (s : List ℕ) (p : Place) (k : ℕ) (r : Result Place ParseError) : Type 0 where
+  pub reached : Walking s p k → r ≡ Ok (walked_on s p k)
   pub any : StepsOr22 p k r

@@ -7,14 +7,13 @@ ghost use Rattle.cursor.specs.Inner.{piece_of};
 ghost use Rattle.slots.specs.Slots.{slots_of};
 ghost use Rattle.slots.specs.Inner.{Room};
 ghost use Rattle.skip.specs.Inner.{skip_from};
-ghost use Rattle.place.specs.Inner.{says_behind, behind_of, EndsAt, Steps};
-ghost use Rattle.place.specs.Inner.{stored_number, entered, nowhere, fresh_place, moved, listing_from, says_listed, next_stand, says_stand, hand_on, HandedOn};
+ghost use Rattle.place.specs.Inner.{behind_of, EndsAt, Steps, stored_number, entered, nowhere, fresh_place, moved, listing_from, says_listed, next_stand, hand_on, HandedOn};
 
 use bits::Run;
 use coordinates::{GlobalCoord, Index};
 use cursor::{Cursor, NextPiece, Piece};
+use fields::ParseError;
 use forms::{Coding, Stored};
-use masks::NextOne;
 use skip::Skipped;
 use slots::Inside;
 
@@ -44,45 +43,37 @@ pub struct Place {
 impl Place {
     // The place after n more records, or after all that are left where there are fewer, found by counting. A place that no walk over these bytes gave gets
     // a place with as many fewer left, or 22.
-    pub fn step(self, s: &[u8], n: u64) -> StepAnswer
+    pub fn step(self, s: &[u8], n: u64) -> Result<Place, ParseError>
         ensures { Steps s.now self (min n self.left) result }
     {
-        let count = if n < self.left { n } else { self.left };
-        let start = self.start;
-        let coding = start.coding;
-        let cursor = self.cursor;
-        let inside = self.inside;
+        let count = n.min(self.left);
         if count == 0 {
-            return StepAnswer::At(self);
+            return Ok(self);
         }
+        let coding = self.start.coding;
         if !is_wide(coding.width) {
-            return StepAnswer::Refused(22);
+            return Err(ParseError::ForeignPlace);
         }
-        match stand_after(s, coding, cursor, inside, count) {
-            Behind::Nothing => StepAnswer::Refused(22),
-            Behind::At(x, w) => {
-                let stand = Stand {
-                    cursor: x,
-                    inside: w,
-                    filled: count as usize,
-                };
-                StepAnswer::At(self.moved_to(stand))
-            }
-        }
+        let Some((cursor, inside)) = stand_after(s, coding, self.cursor, self.inside, count) else {
+            return Err(ParseError::ForeignPlace);
+        };
+        let stand = Stand {
+            cursor,
+            inside,
+            filled: count as usize,
+        };
+        Ok(self.moved_to(stand))
     }
 
     // The place that follows when a call's records are handed out: the same walk, standing behind these, with as many fewer left.
-    pub fn moved_to(self, at: Stand) -> Place
+    pub fn moved_to(mut self, at: Stand) -> Place
         requires { at.filled ≤ self.left }
         ensures { result ≡ moved self (self.left - at.filled) at.cursor at.inside }
     {
-        let cursor = at.cursor;
-        let inside = at.inside;
-        let mut next = self;
-        next.left = next.left - at.filled as u64;
-        next.cursor = cursor;
-        next.inside = inside;
-        next
+        self.left -= at.filled as u64;
+        self.cursor = at.cursor;
+        self.inside = at.inside;
+        self
     }
 }
 
@@ -94,35 +85,14 @@ pub struct Stand {
     pub filled: usize,
 }
 
-#[derive(Drop)]
-enum NextStand {
-    At(Stand),
-    Nothing,
-}
-
-// The place after some more records, or 22.
-#[derive(Drop)]
-pub enum StepAnswer {
-    At(Place),
-    Refused(u32),
-}
-
-// Where a walk stands right behind a record, the cursor behind the record's piece and the place in that piece; or that no such record was found.
-#[derive(Drop)]
-enum Behind {
-    At(Cursor, Inside),
-    Nothing,
-}
-
 // Before the first record.
 pub fn fresh(start: Start) -> Place
     ensures { result ≡ fresh_place start }
 {
     let cursor = cursor::between_roots(start.root_count, start.roots_pos, start.block_pos);
-    let origin = GlobalCoord(0, 0, 0);
     let inside = Inside {
         level: 0,
-        origin,
+        origin: GlobalCoord(0, 0, 0),
         child_mask: 0,
         value_mask: 0,
         stored: 0,
@@ -152,68 +122,61 @@ fn stored_number(stored: Stored) -> u32
 fn enter(q: Piece) -> Inside
     ensures { result ≡ entered (piece_of q) }
 {
-    let origin = q.origin;
-    let values = q.values;
-    let stored = values.stored;
     Inside {
         level: q.level,
-        origin,
+        origin: q.origin,
         child_mask: q.child,
         value_mask: q.value,
-        stored: stored_number(stored),
-        start: values.start,
+        stored: stored_number(q.values.stored),
+        start: q.values.start,
         from: 0,
         number: 0,
     }
 }
 
-// The next piece that lists a record, and the cursor behind it. A piece that lists one shows it in the first words of its value mask; empty pieces are
-// passed many at once.
+// The next piece that lists a record, and the cursor behind it: empty pieces are passed many at once.
+fn pass_empty(s: &[u8], c: Coding, cursor: Cursor) -> NextPiece
+    requires { IsWidth c.width }
+    ensures { says_listed s.now c result ≡ listing_from s.now c cursor }
+{
+    match skip::skip(s, c, cursor, 0, u64::MAX)? {
+        Skipped::End { .. } => Ok(None),
+        Skipped::Before { piece, behind, .. } => Ok(Some((piece, behind))),
+    }
+}
+
+// The same. A piece that lists one shows it in the first words of its value mask.
 fn next_listed(s: &[u8], c: Coding, cursor: Cursor) -> NextPiece
     requires { IsWidth c.width }
     ensures { says_listed s.now c result ≡ listing_from s.now c cursor }
 {
-    match cursor::next_piece(s, c, cursor) {
-        NextPiece::End => NextPiece::End,
-        NextPiece::Refused(k) => NextPiece::Refused(k),
-        NextPiece::At(q, behind) => {
-            let n = slots::mask_bytes(q.level);
-            if let NextOne::At(_) = masks::next_one(s, q.value, n, Index(0)) {
-                return NextPiece::At(q, behind);
-            }
-            match skip::skip(s, c, behind, 0, 18446744073709551615) {
-                Skipped::End(_, _) => NextPiece::End,
-                Skipped::Refused(k) => NextPiece::Refused(k),
-                Skipped::Before(p, x, _, _) => NextPiece::At(p, x),
-            }
-        }
+    let Some((q, behind)) = cursor::next_piece(s, c, cursor)? else {
+        return Ok(None);
+    };
+    let n = slots::mask_bytes(q.level);
+    if masks::next_one(s, q.value, n, Index(0)).is_some() {
+        return Ok(Some((q, behind)));
     }
+    pass_empty(s, c, behind)
 }
 
 // Where a walk stands that is behind the places of a piece, in the next one that lists a record: where all was whole, slots are left, and there is one.
-fn next_stand(s: &[u8], c: Coding, cursor: Cursor, t: Run, limit: usize) -> NextStand
+fn next_stand(s: &[u8], c: Coding, cursor: Cursor, t: Run, limit: usize) -> Option<Stand>
     requires { IsWidth c.width }
-    ensures { says_stand result ≡ next_stand t.whole t.filled limit (listing_from s.now c cursor) }
+    ensures { result ≡ next_stand t.whole t.filled limit (listing_from s.now c cursor) }
 {
-    if !t.whole {
-        return NextStand::Nothing;
+    if !t.whole || limit <= t.filled {
+        return None;
     }
-    if limit <= t.filled {
-        return NextStand::Nothing;
-    }
-    match next_listed(s, c, cursor) {
-        NextPiece::End => NextStand::Nothing,
-        NextPiece::Refused(_) => NextStand::Nothing,
-        NextPiece::At(q, behind) => {
-            let inside = enter(q);
-            let next = Stand {
-                cursor: behind,
-                inside,
-                filled: t.filled,
-            };
-            NextStand::At(next)
-        }
-    }
+    let Ok(next) = next_listed(s, c, cursor) else {
+        return None;
+    };
+    let (q, behind) = next?;
+    Some(Stand {
+        cursor: behind,
+        inside: enter(q),
+        filled: t.filled,
+    })
 }
 
 // The records from here on, piece after piece, into the slots from the first one on, no further than `limit`.
@@ -238,22 +201,15 @@ fn hand_pieces(
         filled: 0,
     };
     loop {
-        let w = at.inside;
-        let t = records::fill_piece(s, c, w, at.filled, limit, x, y, z, level, value);
-        let before = at.cursor;
-        match next_stand(s, c, before, t, limit) {
-            NextStand::At(next) => {
-                at = next;
-            }
-            NextStand::Nothing => {
-                let stopped = t.inside;
-                return Stand {
-                    cursor: before,
-                    inside: stopped,
-                    filled: t.filled,
-                };
-            }
-        }
+        let t = records::fill_piece(s, c, at.inside, at.filled, limit, x, y, z, level, value);
+        let Some(next) = next_stand(s, c, at.cursor, t, limit) else {
+            return Stand {
+                cursor: at.cursor,
+                inside: t.inside,
+                filled: t.filled,
+            };
+        };
+        at = next;
     }
 }
 
@@ -282,47 +238,49 @@ pub fn hand_on(
     hand_pieces(s, known, cursor, inside, limit, x, y, z, level, value)
 }
 
-// Where a walk stands behind so many records of the pieces from a cursor on: in the first piece that does not fit into one record less.
-fn stand_on(s: &[u8], c: Coding, cursor: Cursor, k: u64) -> Behind
+// Where a walk stands behind so many records of the pieces from a cursor on, the cursor behind the last one's piece and the place in that piece: in the
+// first piece that does not fit into one record less.
+fn stand_on(s: &[u8], c: Coding, cursor: Cursor, k: u64) -> Option<(Cursor, Inside)>
     requires { IsWidth c.width × (0 < k) }
-    ensures { says_behind result ≡ behind_of s.now c (skip_from s.now c (k - 1) 18446744073709551615 cursor) }
+    ensures { result ≡ behind_of s.now c (skip_from s.now c (k - 1) 18446744073709551615 cursor) }
 {
-    match skip::skip(s, c, cursor, k - 1, 18446744073709551615) {
-        Skipped::End(_, _) => Behind::Nothing,
-        Skipped::Refused(_) => Behind::Nothing,
-        Skipped::Before(q, x, before, _) => {
-            let w = enter(q);
-            Behind::At(x, nth::stand_behind(s, w, before as u32))
-        }
-    }
+    let Ok(
+        Skipped::Before {
+            piece,
+            behind,
+            records,
+            ..
+        },
+    ) = skip::skip(s, c, cursor, k - 1, u64::MAX)
+    else {
+        return None;
+    };
+    Some((behind, nth::stand_behind(s, enter(piece), records as u32)))
 }
 
 // The same from where a walk stands in a piece: in that piece, where it lists as many from there on.
-fn stand_after(s: &[u8], c: Coding, cursor: Cursor, w: Inside, k: u64) -> Behind
+fn stand_after(s: &[u8], c: Coding, cursor: Cursor, w: Inside, k: u64) -> Option<(Cursor, Inside)>
     requires { IsWidth c.width × (0 < k) }
-    ensures { EndsAt s.now c k cursor w (says_behind result) }
+    ensures { EndsAt s.now c k cursor w result }
 {
     let n = slots::mask_bytes(w.level);
     if 8 * n as u32 <= w.from {
         return stand_on(s, c, cursor, k);
     }
     if !records::is_inside(s, n, w) {
-        return Behind::Nothing;
+        return None;
     }
     let passed = masks::count_ones_below(s, w.value_mask, n, Index(w.from));
-    let left = masks::count_ones(s, w.value_mask, n) - passed;
-    if (left as u64) < k {
-        return stand_on(s, c, cursor, k - left as u64);
+    let left = u64::from(masks::count_ones(s, w.value_mask, n) - passed);
+    if left < k {
+        return stand_on(s, c, cursor, k - left);
     }
-    Behind::At(cursor, nth::stand_behind(s, w, passed + (k - 1) as u32))
+    Some((cursor, nth::stand_behind(s, w, passed + (k - 1) as u32)))
 }
 
 // Whether a stored value can have this width.
 pub fn is_wide(width: usize) -> bool
     ensures { (result ≡ true → IsWidth width) × (IsWidth width → result ≡ true) }
 {
-    if width == 2 {
-        return true;
-    }
-    width == 4
+    width == 2 || width == 4
 }

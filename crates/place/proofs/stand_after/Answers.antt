@@ -52,23 +52,23 @@ count_ones_below-passed-requires c =
 pub count_ones-requires : goal.count_ones-requires
 count_ones-requires c = (masks-there _ c.args.w c.mask_bytes-n.ensures.0 (inside (goal.at.count_ones-requires c).Else-not-is_inside)).0
 
-pub overflow_sub-left : goal.overflow_sub-left
-overflow_sub-left c =
-    let t = goal.at.overflow_sub-left c in
+pub overflow_sub-count_ones : goal.overflow_sub-count_ones
+overflow_sub-count_ones c =
+    let t = goal.at.overflow_sub-count_ones c in
     passed-fewer _ c.args.w c.mask_bytes-n.ensures.0 (passed t.After-count_ones) c.count_ones.ensures (within t.Else-n-w)
 
 pub returns-then-left-k : goal.returns-then-left-k
 returns-then-left-k c =
     let t = goal.at.returns-then-left-k c in
     let small : c.args.cursor.roots_left < 4294967296 = omega arith in
-    ends-later _ _ c.requires.0 _ _ c.args.w c.mask_bytes-n.ensures.0 (within t.Else-n-w) (passed t.After-count_ones) (left t.After-count_ones) small c.if-left-k.true c.stand_on-then-left-k.ensures
+    ends-later _ _ c.requires.0 _ _ c.args.w c.mask_bytes-n.ensures.0 (within t.Else-n-w) (passed t.After-count_ones) (c.from-left.ensures ∙ left t.After-count_ones) small c.if-left-k.true c.stand_on-then-left-k.ensures
 
 pub stand_behind-requires : goal.stand_behind-requires
 stand_behind-requires c =
     let t = goal.at.stand_behind-requires c in
-    has_here _ c.args.w c.mask_bytes-n.ensures.0 (passed t.After-count_ones) c.count_ones.ensures c.args.k (inside t.Else-not-is_inside) c.requires.1 c.if-left-k.false
+    has_here _ c.args.w c.mask_bytes-n.ensures.0 (passed t.After-count_ones) c.count_ones.ensures c.args.k (inside t.Else-not-is_inside) c.requires.1 (omega (arith, c.from-left.ensures, c.if-left-k.false))
 
 pub returns : goal.returns
 returns c =
     let t = goal.at.returns c in
-    ends-here _ _ c.requires.0 _ _ c.args.w c.mask_bytes-n.ensures.0 (within t.Else-n-w) (passed t.After-count_ones) (left t.After-count_ones) c.requires.1 c.if-left-k.false c.stand_behind.ensures
+    ends-here _ _ c.requires.0 _ _ c.args.w c.mask_bytes-n.ensures.0 (within t.Else-n-w) (passed t.After-count_ones) (c.from-left.ensures ∙ left t.After-count_ones) c.requires.1 c.if-left-k.false c.stand_behind.ensures
