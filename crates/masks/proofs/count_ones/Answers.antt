@@ -24,8 +24,3 @@ overflow_add-count c =
 
 pub loop-k-preserved : goal.loop-k-preserved
 loop-k-preserved c = counted (goal.at.loop-k-preserved c).After-word
-
-pub returns : goal.returns
-returns c =
-    let e : c.args.n ≡ 8 * c.loop-k.k = omega arith in
-    rw e c.loop-k.invariant

@@ -1,7 +1,7 @@
 -- The whole words and the part of the place's own word make the places below it.
 use native.Mathlib.Omega.{arith}
 use mathlib.Core.Path.{◌≡◌}
-use Prim.Native.Nat.{◌+◌, ◌*◌, ◌/◌, ◌%◌}
+use Prim.Native.Nat.{◌+◌, ◌%◌}
 use lib.Count.{ones}
 use Rattle.masks.specs.Masks.{mask_bit, count_below}
 use Rattle.masks.proofs.Laws.{count-le}
@@ -16,12 +16,6 @@ counted c =
     let a = c.args in
     rw c.count_ones-whole.ensures
     (count-on (mask_bit a.s.now a.at) _ _ c.word.ensures (a.p.0 % 64) _ _ (omega arith) c.low_bits.ensures (omega arith))
-
-pub returns-then-rest-eq0 : goal.returns-then-rest-eq0
-returns-then-rest-eq0 c =
-    let a = c.args in
-    let e : 8 * (a.p.0 / 64 * 8) ≡ a.p.0 = omega arith in
-    rw e at c.count_ones-whole.ensures
 
 pub overflow_add-result : goal.overflow_add-result
 overflow_add-result c =

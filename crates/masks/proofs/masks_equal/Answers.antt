@@ -15,8 +15,3 @@ loop-k-preserved c =
     let e : 8 * (8 * (c.loop-k.k + 1)) ≡ 8 * (8 * c.loop-k.k) + 64 = omega arith in
     let o = agree_on (mask_bit a.s.now a.a) (mask_bit a.s.now a.b) (8 * (8 * c.loop-k.k)) _ _ c.word.ensures c.word-in-loop-k.ensures in
     rw (e, c.loop-k.invariant) o
-
-pub returns : goal.returns
-returns c =
-    let e : c.args.n ≡ 8 * c.loop-k.k = omega arith in
-    rw e c.loop-k.invariant

@@ -24,8 +24,3 @@ loop-k-preserved c =
     let g = mask_bit a.s.now a.b in
     let e : 8 * (8 * (c.loop-k.k + 1)) ≡ 8 * (8 * c.loop-k.k) + 64 = omega arith in
     rw e (overlap-on f g (8 * (8 * c.loop-k.k)) _ _ c.word.ensures c.word-in-loop-k.ensures c.loop-k.invariant c.if-word-ne0.false)
-
-pub returns : goal.returns
-returns c =
-    let e : c.args.n ≡ 8 * c.loop-k.k = omega arith in
-    rw e (sym c.loop-k.invariant)

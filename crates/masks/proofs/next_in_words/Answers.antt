@@ -1,20 +1,11 @@
 use native.Mathlib.Omega.{arith}
-use mathlib.Core.Path.{◌≡◌, refl, sym, ◌∙◌}
-use Prim.Native.Nat.{◌+◌, ◌*◌, ◌/◌}
+use mathlib.Core.Path.{◌≡◌, sym, ◌∙◌}
+use Prim.Native.Nat.{◌+◌, ◌*◌}
 use native.Mathlib.Nat.{add-zero}
-use lib.Count.{trailing_le}
 use Rattle.masks.specs.Masks.{mask_bit}
 use Rattle.masks.proofs.Laws.{next-end}
 use Rattle.masks.proofs.Words.{next-in-word, next-past-word}
 use Rattle.masks.proofs.next_in_words.Goals as goal
-
-pub loop-k-init : goal.loop-k-init
-loop-k-init c =
-    let e : 8 * (c.args.from / 8) ≡ c.args.from = omega arith in
-    rw e refl
-
-pub overflow_add-result : goal.overflow_add-result
-overflow_add-result c = omega (arith, trailing_le 64 c.word-w.result)
 
 pub returns-then-w-ne0 : goal.returns-then-w-ne0
 returns-then-w-ne0 c =

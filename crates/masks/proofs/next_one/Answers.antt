@@ -2,7 +2,6 @@
 use native.Mathlib.Omega.{arith}
 use mathlib.Core.Path.{◌≡◌, sym, ◌∙◌}
 use Prim.Native.Nat.{◌+◌, ◌*◌, ◌/◌, ◌%◌}
-use lib.Count.{trailing_le}
 use Rattle.masks.specs.Masks.{mask_bit}
 use Rattle.masks.proofs.Laws.{next-end}
 use Rattle.masks.proofs.Words.{next-in-word, next-past-word}
@@ -12,9 +11,6 @@ pub returns-then-n-i : goal.returns-then-n-i
 returns-then-n-i c =
     let a = c.args in
     sym (next-end (mask_bit a.s.now a.at) (8 * a.n) a.p.0 (omega arith))
-
-pub overflow_add-result : goal.overflow_add-result
-overflow_add-result c = omega (arith, trailing_le 64 c.high_bits-high.result)
 
 pub returns-then-high-ne0 : goal.returns-then-high-ne0
 returns-then-high-ne0 c =
