@@ -70,6 +70,16 @@ fn bytes_from(f: &[u8; 262144], start: usize, len: usize) -> &[u8] {
     fields::bytes_of(f, Span { start, len })
 }
 
+// The first bytes of a file.
+pub fn cut(s: &[u8], len: usize) -> &[u8] {
+    fields::bytes_of(s, Span { start: 0, len })
+}
+
+// The lowest 32 bits of a number.
+pub fn low(n: u64) -> u32 {
+    (n % 4294967296) as u32
+}
+
 // The file.
 pub fn file(m: Line, f: &[u8; 262144]) -> &[u8] {
     bytes_from(f, 0, m.len)

@@ -8,7 +8,7 @@
 //     Node FROM TO VERSION FLAGS WIDTH BYTES         the sum of a node's places; its child mask is at 0, its value mask and its values follow
 //     Place P5 P4 P3                                 places below the root whose origin is at 0
 //     Voxel                                          the root of the voxel at 0, and its places
-use asking::{series, show};
+use asking::{line, series, show};
 use coordinates::{GlobalCoord, Index};
 use fields::Field;
 use forms::{Coding, Stored};
@@ -108,17 +108,13 @@ fn value_of(
 fn place(s: &[u8], n: &[u64; 8], p: usize) -> u64 {
     value_of(
         s,
-        low(n[3]),
-        low(n[4]),
+        line::low(n[3]),
+        line::low(n[4]),
         n[5] as usize,
         n[6] as usize,
-        low(n[7]),
+        line::low(n[7]),
         p,
     )
-}
-
-fn low(n: u64) -> u32 {
-    (n % 4294967296) as u32
 }
 
 fn next(out: &mut impl Write, a: Option<Index>) -> io::Result<()> {
@@ -230,7 +226,13 @@ pub fn ask(out: &mut impl Write, command: u8, s: &[u8], n: &[u64; 8]) -> io::Res
         b'H' => series::row(out, a, b, half),
         b'N' => series::row(out, a, b, |p| place(s, n, p)),
         b'S' => stored(out, s, a, b),
-        b'P' => down(out, vector(s), low(n[1]), low(n[2]), low(n[3])),
+        b'P' => down(
+            out,
+            vector(s),
+            line::low(n[1]),
+            line::low(n[2]),
+            line::low(n[3]),
+        ),
         b'V' => back(out, vector(s)),
         _ => Ok(()),
     }
