@@ -42,7 +42,7 @@ pub enum MapKind {
     Other,
 }
 
-// The map that a name stands for: two names each.
+// The map that a name stands for: two names each. Not a match on byte strings: its last arm gives a proof no fact about the name.
 pub fn map_kind(name: &[u8]) -> MapKind
     ensures { result ≡ map_kind name.now }
 {
