@@ -10,7 +10,8 @@ ghost use Rattle.batch.specs.Inner.{ranged, numbered, in_order, InFile, OnesSet}
 
 use forms::Coding;
 
-// One value into 64 slots. This loop and the next two have no way out, so that the compiler vectorises them.
+// One value into 64 slots. This loop and the next two have no way out, so that the compiler vectorises them. They are not one over a closure, which would
+// have to carry what each body asks and promises.
 pub fn fill_same(x: u32, slot: usize, slots: &mut [u32])
     requires { slot + 64 ≤ length slots.old }
     ensures { slots.new ≡ ranged slots.old slot 64 (λ k. x) }
@@ -55,7 +56,7 @@ pub fn fill_values(s: &[u8], c: Coding, start: usize, number: usize, slot: usize
     fill_stored(s, c, start, number, slot, slots);
 }
 
-// One value into the slot of each one of a word.
+// One value into the slot of each one of a word. What is left of the word says how far the loop is, so that this and the next one count nothing.
 pub fn put_same(x: u32, ones: u64, slots: &mut [u32])
     requires { length slots.old ≡ 64 }
     ensures { OnesSet (λ i. x) ones slots.old slots.new }
