@@ -14,11 +14,12 @@ pub record IsMask (s : List ℕ) (at n : ℕ) : Type 0 where
 abbrev pub zeros_below : (ℕ → Bool) → ℕ → ℕ
 zeros_below f p = count_below (λ q. not (f q)) p
 
--- the next one at or after p in a mask of n places, if there is one
+-- the first of some places, if there is one
 abbrev pub first : List ℕ → Option Index
 first [] = None
 first (p ∷ l) = Some (index p)
 
+-- the next one at or after p in a mask of n places, if there is one
 abbrev pub next_one : (ℕ → Bool) → ℕ → ℕ → Option Index
 next_one f n p = first (ones_from f p (n - p))
 
