@@ -26,17 +26,14 @@ pub fn layout() -> u32
 pub fn has_layout(w: [u64; 40]) -> bool
     ensures { result ≡ has_layout w }
 {
-    w[0] == LAYOUT as u64
+    w[0] == u64::from(LAYOUT)
 }
 
 // A signed number's pattern in two's complement.
 pub fn pattern_of(x: i64) -> u64
     ensures { result ≡ pattern x }
 {
-    if x < 0 {
-        return 0xffff_ffff_ffff_ffff - (!x) as u64;
-    }
-    x as u64
+    x.cast_unsigned()
 }
 
 fn low(w: u64) -> u32
@@ -48,7 +45,7 @@ fn low(w: u64) -> u32
 fn coord(w: u64) -> i32
     ensures { result ≡ signed 31 (low32 w) }
 {
-    fields::i32_of(low(w))
+    low(w).cast_signed()
 }
 
 fn coords_of(x: u64, y: u64, z: u64) -> GlobalCoord
@@ -60,9 +57,8 @@ fn coords_of(x: u64, y: u64, z: u64) -> GlobalCoord
 fn entered_of(x: u64, y: u64, z: u64, pos: u64, next: u64) -> Entered
     ensures { result ≡ entered_by x y z pos next }
 {
-    let origin = coords_of(x, y, z);
     Entered {
-        origin,
+        origin: coords_of(x, y, z),
         pos: pos as usize,
         next: low(next),
     }
@@ -71,13 +67,11 @@ fn entered_of(x: u64, y: u64, z: u64, pos: u64, next: u64) -> Entered
 fn cursor_of(w: [u64; 40]) -> Cursor
     ensures { result ≡ cursor_by w 12 }
 {
-    let node5 = entered_of(w[14], w[15], w[16], w[17], w[18]);
-    let node4 = entered_of(w[19], w[20], w[21], w[22], w[23]);
     Cursor {
         depth: low(w[12]),
         roots_left: low(w[13]),
-        node5,
-        node4,
+        node5: entered_of(w[14], w[15], w[16], w[17], w[18]),
+        node4: entered_of(w[19], w[20], w[21], w[22], w[23]),
         topology_pos: w[24] as usize,
         block_pos: w[25] as usize,
     }
@@ -86,10 +80,9 @@ fn cursor_of(w: [u64; 40]) -> Cursor
 fn inside_of(w: [u64; 40]) -> Inside
     ensures { result ≡ inside_by w 26 }
 {
-    let origin = coords_of(w[27], w[28], w[29]);
     Inside {
         level: low(w[26]),
-        origin,
+        origin: coords_of(w[27], w[28], w[29]),
         child_mask: w[30] as usize,
         value_mask: w[31] as usize,
         stored: low(w[32]),
@@ -102,14 +95,13 @@ fn inside_of(w: [u64; 40]) -> Inside
 fn start_of(w: [u64; 40]) -> Start
     ensures { result ≡ start_by w 1 }
 {
-    let coding = Coding {
-        version: low(w[1]),
-        flags: low(w[2]),
-        width: w[3] as usize,
-        background: low(w[4]),
-    };
     Start {
-        coding,
+        coding: Coding {
+            version: low(w[1]),
+            flags: low(w[2]),
+            width: w[3] as usize,
+            background: low(w[4]),
+        },
         tiles_pos: w[5] as usize,
         tile_count: low(w[6]),
         roots_pos: w[7] as usize,
@@ -123,14 +115,11 @@ fn start_of(w: [u64; 40]) -> Start
 pub fn place_of(w: [u64; 40]) -> Place
     ensures { result ≡ place_by w }
 {
-    let start = start_of(w);
-    let cursor = cursor_of(w);
-    let inside = inside_of(w);
     Place {
-        start,
+        start: start_of(w),
         left: w[11],
-        cursor,
-        inside,
+        cursor: cursor_of(w),
+        inside: inside_of(w),
     }
 }
 
@@ -138,26 +127,25 @@ pub fn place_of(w: [u64; 40]) -> Place
 fn word(x: u32) -> u64
     ensures { (result ≡ x) × (low32 result ≡ x) }
 {
-    x as u64
+    u64::from(x)
 }
 
 // The same for a coordinate.
 pub fn coord_word(x: i32) -> u64
     ensures { (result ≡ pattern x) × (signed 31 (low32 result) ≡ x) }
 {
-    pattern_of(x as i64)
+    pattern_of(i64::from(x))
 }
 
 // The words of what a walk starts from, of a coordinate, a node, a cursor and a place in a piece, from each of which it comes back.
 fn start_words(t: Start) -> [u64; 10]
     ensures { (result ≡ start_words t) × (start_by result 0 ≡ t) }
 {
-    let c = t.coding;
     [
-        word(c.version),
-        word(c.flags),
-        c.width as u64,
-        word(c.background),
+        word(t.coding.version),
+        word(t.coding.flags),
+        t.coding.width as u64,
+        word(t.coding.background),
         t.tiles_pos as u64,
         word(t.tile_count),
         t.roots_pos as u64,
@@ -176,41 +164,27 @@ fn coord_words(o: GlobalCoord) -> [u64; 3]
 fn entered_words(e: Entered) -> [u64; 5]
     ensures { (result ≡ entered_words e) × (entered_by (at result 0) (at result 1) (at result 2) (at result 3) (at result 4) ≡ e) }
 {
-    let origin = e.origin;
-    let o = coord_words(origin);
+    let o = coord_words(e.origin);
     [o[0], o[1], o[2], e.pos as u64, word(e.next)]
 }
 
 fn cursor_words(c: Cursor) -> [u64; 14]
     ensures { (result ≡ cursor_words c) × (cursor_by result 0 ≡ c) }
 {
-    let node5 = c.node5;
-    let node4 = c.node4;
-    let n = entered_words(node5);
-    let m = entered_words(node4);
-    [
-        word(c.depth),
-        word(c.roots_left),
-        n[0],
-        n[1],
-        n[2],
-        n[3],
-        n[4],
-        m[0],
-        m[1],
-        m[2],
-        m[3],
-        m[4],
-        c.topology_pos as u64,
-        c.block_pos as u64,
-    ]
+    let mut out = [0; 14];
+    out[0] = word(c.depth);
+    out[1] = word(c.roots_left);
+    out[2..7].copy_from_slice(&entered_words(c.node5));
+    out[7..12].copy_from_slice(&entered_words(c.node4));
+    out[12] = c.topology_pos as u64;
+    out[13] = c.block_pos as u64;
+    out
 }
 
 fn inside_words(w: Inside) -> [u64; 10]
     ensures { (result ≡ inside_words w) × (inside_by result 0 ≡ w) }
 {
-    let origin = w.origin;
-    let o = coord_words(origin);
+    let o = coord_words(w.origin);
     [
         word(w.level),
         o[0],
@@ -229,52 +203,11 @@ fn inside_words(w: Inside) -> [u64; 10]
 pub fn words_of(p: Place) -> [u64; 40]
     ensures { (result ≡ words_of p) × StandFor result p }
 {
-    let start = p.start;
-    let cursor = p.cursor;
-    let inside = p.inside;
-    let t = start_words(start);
-    let c = cursor_words(cursor);
-    let w = inside_words(inside);
-    [
-        LAYOUT as u64,
-        t[0],
-        t[1],
-        t[2],
-        t[3],
-        t[4],
-        t[5],
-        t[6],
-        t[7],
-        t[8],
-        t[9],
-        p.left,
-        c[0],
-        c[1],
-        c[2],
-        c[3],
-        c[4],
-        c[5],
-        c[6],
-        c[7],
-        c[8],
-        c[9],
-        c[10],
-        c[11],
-        c[12],
-        c[13],
-        w[0],
-        w[1],
-        w[2],
-        w[3],
-        w[4],
-        w[5],
-        w[6],
-        w[7],
-        w[8],
-        w[9],
-        0,
-        0,
-        0,
-        0,
-    ]
+    let mut out = [0; 40];
+    out[0] = u64::from(LAYOUT);
+    out[1..11].copy_from_slice(&start_words(p.start));
+    out[11] = p.left;
+    out[12..26].copy_from_slice(&cursor_words(p.cursor));
+    out[26..36].copy_from_slice(&inside_words(p.inside));
+    out
 }

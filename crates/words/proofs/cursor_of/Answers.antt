@@ -4,4 +4,4 @@ use Rattle.words.proofs.cursor_of.Goals as goal
 
 pub returns : goal.returns
 unfolding cursor_by
-returns c = rw (c.entered_of-node5.ensures, c.entered_of-node4.ensures, c.low.ensures, c.low-2.ensures)
+returns c = rw (c.entered_of.ensures, c.entered_of-2.ensures, c.low.ensures, c.low-2.ensures)

@@ -2,4 +2,4 @@
 use Rattle.words.proofs.entered_of.Goals as goal
 
 pub returns : goal.returns
-returns c = rw (c.coords_of-origin.ensures, c.low.ensures)
+returns c = rw (c.coords_of.ensures, c.low.ensures)

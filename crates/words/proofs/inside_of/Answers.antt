@@ -4,4 +4,4 @@ use Rattle.words.proofs.inside_of.Goals as goal
 
 pub returns : goal.returns
 unfolding inside_by
-returns c = rw (c.coords_of-origin.ensures, c.low.ensures, c.low-2.ensures, c.low-3.ensures)
+returns c = rw (c.coords_of.ensures, c.low.ensures, c.low-2.ensures, c.low-3.ensures)

@@ -4,4 +4,4 @@ use Rattle.words.proofs.place_of.Goals as goal
 
 pub returns : goal.returns
 unfolding place_by
-returns c = rw (c.start_of-start.ensures, c.cursor_of-cursor.ensures, c.inside_of-inside.ensures)
+returns c = rw (c.start_of.ensures, c.cursor_of.ensures, c.inside_of.ensures)
