@@ -8,7 +8,8 @@ use Rattle.fields.specs.Parse.{Parse, got, then}
 use Rattle.fields.proofs.Laws.{then-got, check-passes, Always, then-always, got-always, check-always}
 use Rattle.fields.proofs.Agree.{Same, Reads, Each, Tells, part}
 use Rattle.fields.specs.Answer.{gives}
-use Rattle.archive.specs.Archive.{present, AskedFile, file_asked}
+use Rattle.archive.specs.Archive.{present, file_asked}
+use Rattle.archive.specs.declared.AskedFile.{AskedFile}
 use Rattle.header.specs.declared.ArchiveHeader.{ArchiveHeader}
 use Rattle.descriptor.specs.declared.GridDescriptor.{GridDescriptor}
 use Rattle.archive.specs.declared.Asked.{Asked}

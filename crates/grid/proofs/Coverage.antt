@@ -3,7 +3,8 @@
 use mathlib.Core.Path.{◌≡◌, ap}
 use mathlib.Core.Logic.{◌↔◌}
 use mathlib.Core.List.{List, Memᴰ}
-use mathlib.Core.Bool.{true, false}
+use mathlib.Core.Bool.{Bool, true, false}
+use Rattle.std.proofs.Common.{Option, None, Some}
 use Prim.Native.Nat.{ℕ, ◌≤◌, ◌<◌}
 use native.Mathlib.Omega.{arith}
 use lib.ListN.{length, get_or}
@@ -12,8 +13,6 @@ use Rattle.fields.specs.Answer.{gives}
 use Rattle.archive.specs.declared.Asked.{Asked}
 use Rattle.header.specs.declared.ArchiveHeader.{ArchiveHeader}
 use Rattle.descriptor.specs.declared.GridDescriptor.{GridDescriptor}
-use Rattle.descriptor.specs.declared.HalfEntry.{HalfEntry}
-use Rattle.descriptor.specs.declared.HalfEntry.TheVariants as Half
 use Rattle.descriptor.specs.declared.TreeKind.{TreeKind}
 use Rattle.descriptor.specs.declared.TreeKind.TheVariants as Kind
 use Rattle.fields.proofs.Answers.{with-back, answer_back}
@@ -34,13 +33,13 @@ pub record GridRead (s : List ℕ) (g : Grid) : Type 0 where
   pub width : IsWidth g.coding.width
 
 -- the width is 2 or 4
-pub width_is : (e : HalfEntry) (k : TreeKind) → IsWidth (width_of e k)
+pub width_is : (e : Option Bool) (k : TreeKind) → IsWidth (width_of e k)
 unfolding width_of
-width_is (Half.Says true) k = omega arith
-width_is (Half.Says false) k = omega arith
-width_is Half.Nothing Kind.Float = omega arith
-width_is Half.Nothing Kind.HalfFloat = omega arith
-width_is Half.Nothing Kind.Other = omega arith
+width_is (Some true) k = omega arith
+width_is (Some false) k = omega arith
+width_is None Kind.Float = omega arith
+width_is None Kind.HalfFloat = omega arith
+width_is None Kind.Other = omega arith
 
 grid-field : (s : List ℕ) (h : ArchiveHeader) (d : GridDescriptor) → Always (λ g p. GridRead s g) (grid_field s h d)
 unfolding grid_field content_field

@@ -2,7 +2,7 @@
 use mathlib.Core.Path.{◌≡◌, refl, sym, ap, ◌∙◌}
 use mathlib.Core.List.{List, [], map}
 use mathlib.Core.Bool.{true}
-use mathlib.Core.Option.{Option, none, some}
+use Rattle.std.proofs.Common.{None, Some}
 use Prim.Native.Nat.{ℕ, ◌-◌, ◌≤◌}
 use native.Mathlib.Omega.{arith}
 use lib.Dec.{eqb}
@@ -11,6 +11,7 @@ use Rattle.fields.specs.Parse.{Parse, got, fails, then}
 use Rattle.fields.proofs.Laws.{check-passes, through, then-got, then-fails, made_at}
 use Rattle.fields.specs.Answer.{Answer, gives, refuses, answer, with}
 use Rattle.archive.specs.Archive.{present, file_asked}
+use Rattle.archive.specs.declared.AskedFile.{AskedFile}
 use Rattle.archive.specs.declared.Asked.{Asked}
 use Rattle.fields.proofs.Answers.{with-gives, with-refuses, answer-fails}
 use Rattle.header.specs.declared.ArchiveHeader.{ArchiveHeader}
@@ -34,7 +35,7 @@ use Rattle.skip.proofs.Laws.{records_in, leaves_in, skip-refused, skip-ended}
 use Rattle.skip.proofs.Few.{few-records, few-leaves}
 use Rattle.place.proofs.Places.{after_none}
 use Rattle.grid.specs.Grid.{Grid, is_float_tree, coding_of, root_limit, content_field, grid_field, grid, place_after, opened_of, open_grid}
-use Rattle.grid.specs.Inner.{content_of, content_with, read_tree, read_content, read_grid, look, opened_by}
+use Rattle.grid.specs.Inner.{content_of, content_with, read_tree, read_grid, look, opened_by}
 use Rattle.grid.specs.declared.Content.{Content}
 
 -- more records, and more leaves, than any tree has
@@ -67,7 +68,7 @@ module _ (s : List ℕ) (c : Coding) (count at block : ℕ) (few : count ≤ 256
   blocks-count {filled} e =
       let w = blocks-there s c count [] at block d e in
       let p : map (λ t. t.piece) all.items ≡ pieces filled = ap (λ (r : Rest Piece). r.items) w in
-      let r : all.refusal ≡ none = ap (λ (r : Rest Piece). r.refusal) w in
+      let r : all.refusal ≡ None = ap (λ (r : Rest Piece). r.refusal) w in
       let n : records_in s all.items ≡ length (active_list s c filled)
       = sym (total-map (record_count s) (λ t. t.piece) all.items) ∙ ap (total (record_count s)) p ∙ sym (active-count s c filled) in
       let k : leaves_in all.items ≡ length (all_blocks filled)
@@ -117,19 +118,14 @@ module _ (s : List ℕ) (h : ArchiveHeader) (d : GridDescriptor) (map : Map) (en
       ∙ tree-counted s (coding_of h d head) head.root_count at d.block_pos few b.1 (content_with h d map end head t)
       ∙ ap answer (then-got _ b.1 refl)
 
--- Transform, what stands before the roots, and the tree give the grid's content.
+-- Where the descriptor's checks pass, transform, what stands before the roots, and the tree give the grid's content.
 pub content-parts :
-    (s : List ℕ) (h : ArchiveHeader) (d : GridDescriptor) →
-    then (transform s d.tree_pos) (λ map p. then (tree_head_field s root_limit p) (λ head q. read_tree s h d map p head q)) ≡ read_content s h d
-unfolding read_content content_field read_tree
-content-parts s h d = through _ _ _ _ λ map p e. through _ _ _ _ λ head q e. through _ _ _ _ λ roots r e. made_at _ _ _ _ λ filled v e. refl
-
--- where the descriptor's checks pass, the grid is its content
-pub grid-parts :
     (s : List ℕ) (h : ArchiveHeader) (d : GridDescriptor) → true ≡ is_float_tree d.kind → true ≡ eqb d.instance_parent.len 0 →
-    read_content s h d ≡ read_grid s h d
-unfolding read_content read_grid grid_field
-grid-parts s h d a b = ap (λ (m : Parse Grid). then m (λ g n. got (content_of s g) n)) (check-passes 12 a (check-passes 13 b refl))
+    then (transform s d.tree_pos) (λ map p. then (tree_head_field s root_limit p) (λ head q. read_tree s h d map p head q)) ≡ read_grid s h d
+unfolding read_grid grid_field content_field read_tree
+content-parts s h d a b =
+    (through _ _ _ _ λ map p e. through _ _ _ _ λ head q e. through _ _ _ _ λ roots r e. made_at _ _ _ _ λ filled v e. refl)
+    ∙ ap (λ (m : Parse Grid). then m (λ g n. got (content_of s g) n)) (check-passes 12 a (check-passes 13 b refl))
 
 -- the place after no record is made of what a grid's content has
 pub opened-so : (s : List ℕ) (g : Grid) → opened_of s g ≡ opened_by (content_of s g)
@@ -142,14 +138,14 @@ module _ (s : List ℕ) (asked : Asked) (name : List ℕ) where
   unfolding look grid
   file-refused k e = with-refuses _ (with-refuses _ e)
 
-  module _ (h : ArchiveHeader) (f : Option GridDescriptor) (e : gives (record { header = h; grid = f }) ≡ file_asked s asked name) where
-    pub grid-absent : f ≡ none → refuses 11 ≡ look s asked name
+  module _ (o : AskedFile) (e : gives o ≡ file_asked s asked name) where
+    pub grid-absent : o.grid ≡ None → refuses 11 ≡ look s asked name
     unfolding look grid present
     grid-absent x = with-refuses _ (with-gives _ e (with-refuses _ (ap present (sym x))))
 
-    pub grid-found : (d : GridDescriptor) → f ≡ some d → answer (read_grid s h d) ≡ look s asked name
+    pub grid-found : (d : GridDescriptor) → o.grid ≡ Some d → answer (read_grid s o.header d) ≡ look s asked name
     unfolding look read_grid grid present with answer then
-    grid-found d x = rw (← e, x) (go (grid_field s h d))
+    grid-found d x = rw (← e, x) (go (grid_field s o.header d))
       where
         go : (m : Parse Grid) → answer (then m (λ g n. got (content_of s g) n)) ≡ with (answer m) (λ g. gives (content_of s g))
         go (got g n) = refl

@@ -1,12 +1,10 @@
 -- Sections 7 and 8: opening a grid.
-use Rattle.std.specs.Prelude.{ℕ, List, [], Bool, true, false, eqb, length}
+use Rattle.std.specs.Prelude.{ℕ, List, [], Bool, true, false, Option, None, Some, eqb, length}
 use Rattle.fields.specs.Parse.{Parse, got, then, check}
 use Rattle.fields.specs.Answer.{Answer, gives, answer, with}
 use Rattle.archive.specs.Archive.{present, file_asked}
 use Rattle.header.specs.declared.ArchiveHeader.{ArchiveHeader}
 use Rattle.descriptor.specs.declared.GridDescriptor.{GridDescriptor}
-use Rattle.descriptor.specs.declared.HalfEntry.{HalfEntry}
-use Rattle.descriptor.specs.declared.HalfEntry.TheVariants as Half
 use Rattle.descriptor.specs.declared.TreeKind.{TreeKind}
 use Rattle.descriptor.specs.declared.TreeKind.TheVariants as Kind
 use Rattle.archive.specs.declared.Asked.{Asked}
@@ -33,12 +31,12 @@ is_float_tree Kind.Other = false
 
 -- Section 5 and N4, how many bytes a stored value takes: the grid's half entry says it where it is a bool; where there is none, or it is of another kind,
 -- the ending of the type's name does. Of another tree, which check 12 refuses, no value is read.
-unfoldable pub width_of : HalfEntry → TreeKind → ℕ
-width_of (Half.Says true) kind = 2
-width_of (Half.Says false) kind = 4
-width_of Half.Nothing Kind.Float = 4
-width_of Half.Nothing Kind.HalfFloat = 2
-width_of Half.Nothing Kind.Other = 4
+unfoldable pub width_of : Option Bool → TreeKind → ℕ
+width_of (Some true) kind = 2
+width_of (Some false) kind = 4
+width_of None Kind.Float = 4
+width_of None Kind.HalfFloat = 2
+width_of None Kind.Other = 4
 
 -- how the grid's values are stored, and the background that they stand out from
 abbrev pub coding_of : ArchiveHeader → GridDescriptor → TreeHead → Coding

@@ -1,7 +1,7 @@
 -- Inner matter: only contracts of inner functions cite it, and nothing here has to be believed.
 use Rattle.std.specs.Prelude.{ℕ, List, [], length}
 use Rattle.fields.specs.Parse.{Parse, got, then}
-use Rattle.fields.specs.Answer.{Answer, gives, refuses, with}
+use Rattle.fields.specs.Answer.{Answer, gives, with}
 use Rattle.header.specs.declared.ArchiveHeader.{ArchiveHeader}
 use Rattle.descriptor.specs.declared.GridDescriptor.{GridDescriptor}
 use Rattle.archive.specs.declared.Asked.{Asked}
@@ -11,11 +11,9 @@ use Rattle.tree.specs.Topology.{roots_field}
 use Rattle.tree.specs.Blocks.{blocks_field}
 use Rattle.tree.specs.Active.{active_list, all_blocks}
 use Rattle.place.specs.Inner.{fresh_place}
-use Rattle.grid.specs.Grid.{Grid, coding_of, content_field, grid_field, grid, start_of}
+use Rattle.grid.specs.Grid.{Grid, coding_of, grid_field, grid, start_of}
 use Rattle.grid.specs.declared.Content.{Content}
 use Rattle.grid.specs.declared.OpenedGrid.{OpenedGrid}
-use Rattle.grid.specs.declared.ContentAnswer.{ContentAnswer}
-use Rattle.grid.specs.declared.ContentAnswer.TheVariants.{Got as GotContent, Refused as RefusedContent}
 
 -- all that opening a grid finds, which a walk starts from
 abbrev pub content_of : List ℕ → Grid → Content
@@ -51,25 +49,18 @@ content_with h d map map_end head tree_end records leaves = record {
   };
 }
 
--- what is found from the roots on, from the transform on, and from the descriptor on
+-- what is found from the roots on, and from the descriptor on
 unfoldable pub read_tree : List ℕ → ArchiveHeader → GridDescriptor → Map → ℕ → TreeHead → ℕ → Parse Content
 read_tree s h d map map_end head at =
     then (roots_field s (coding_of h d head) head.root_count [] at) λ roots r.
     then (blocks_field s (coding_of h d head) roots d.block_pos) λ filled v.
     got (content_with h d map map_end head r (length (active_list s (coding_of h d head) filled)) (length (all_blocks filled))) v
 
-unfoldable pub read_content : List ℕ → ArchiveHeader → GridDescriptor → Parse Content
-read_content s h d = then (content_field s h d) λ g n. got (content_of s g) n
-
 unfoldable pub read_grid : List ℕ → ArchiveHeader → GridDescriptor → Parse Content
 read_grid s h d = then (grid_field s h d) λ g n. got (content_of s g) n
 
 unfoldable pub look : List ℕ → Asked → List ℕ → Answer Content
 look s asked name = with (grid s asked name) λ g. gives (content_of s g)
-
-abbrev pub says_content : ContentAnswer → Answer Content
-says_content (GotContent c) = gives c
-says_content (RefusedContent k) = refuses k
 
 -- the opened grid of this content
 abbrev pub opened_by : Content → OpenedGrid

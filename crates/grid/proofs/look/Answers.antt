@@ -1,17 +1,14 @@
 -- The file is opened, then the grid that was found.
-use mathlib.Core.Path.{ap, ◌∙◌}
-use Rattle.fields.proofs.Laws.{told}
-use Rattle.archive.specs.Inner.{says_file, says_found_grid}
+use mathlib.Core.Path.{◌∙◌}
+use Rattle.fields.proofs.Steps.{handed-on-answer}
 use Rattle.grid.proofs.Laws.{file-refused, grid-absent, grid-found}
 use Rattle.grid.proofs.look.Goals as goal
 
-pub returns-in-Refused : goal.returns-in-Refused
-returns-in-Refused c = file-refused _ _ _ _ (told says_file c.in-Refused.is c.read_file.ensures)
+pub returns-in_err-file : goal.returns-in_err-file
+returns-in_err-file c = handed-on-answer _ _ c.from_residual.ensures.1 (file-refused _ _ _ _ c.in_err-file.ensures)
 
-pub returns-in-Nothing : goal.returns-in-Nothing
-returns-in-Nothing c =
-    grid-absent _ _ _ _ _ (told says_file c.in-Got.is c.read_file.ensures) (ap says_found_grid c.in-Nothing.is)
+pub returns-in_default : goal.returns-in_default
+returns-in_default c = grid-absent _ _ _ _ c.in_ok-file.ensures c.in_default.is
 
-pub returns-in-At : goal.returns-in-At
-returns-in-At c =
-    c.read_grid.ensures ∙ grid-found _ _ _ _ _ (told says_file c.in-Got.is c.read_file.ensures) _ (ap says_found_grid c.in-At.is)
+pub returns : goal.returns
+returns c = c.read_grid.ensures ∙ grid-found _ _ _ _ c.in_ok-file.ensures _ c.in-Some.is

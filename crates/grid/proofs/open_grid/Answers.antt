@@ -1,14 +1,10 @@
 -- A walk starts from what is found of the grid.
-use mathlib.Core.Path.{ap, ◌∙◌}
-use Rattle.fields.proofs.Laws.{told}
-use Rattle.fields.specs.Answer.{gives}
-use Rattle.grid.specs.Inner.{says_content}
+use Rattle.fields.proofs.Steps.{handed-on-answer}
 use Rattle.grid.proofs.Laws.{open-refuses, open_gives}
 use Rattle.grid.proofs.open_grid.Goals as goal
 
-pub returns-in-Refused : goal.returns-in-Refused
-returns-in-Refused c = open-refuses _ _ _ _ (told says_content c.in-Refused.is c.look.ensures)
+pub returns-in_err-content : goal.returns-in_err-content
+returns-in_err-content c = handed-on-answer _ _ c.from_residual.ensures.1 (open-refuses _ _ _ _ c.in_err-content.ensures)
 
-pub returns-in-Got : goal.returns-in-Got
-returns-in-Got c =
-    ap gives c.opened.ensures ∙ open_gives _ _ _ _ (told says_content c.in-Got.is c.look.ensures)
+pub returns : goal.returns
+returns c = rw c.fresh.ensures (open_gives _ _ _ _ c.in_ok-content.ensures)
