@@ -14,11 +14,12 @@ use Rattle.slots.specs.Slots.{Slots, slot_count, put, laid_from}
 use Rattle.grid.specs.Grid.{Grid, grid, open_grid, opened_of, active_of, place_after}
 use Rattle.grid.specs.declared.OpenedGrid.{OpenedGrid}
 use Rattle.grid.proofs.Coverage.{apart, covered}
-use Rattle.walk.specs.Walk.{says_walk, walked_to, next_records}
+use Rattle.std.proofs.Common.{Result, Ok, Err}
+use Rattle.fields.specs.Says.{says_answer}
+use Rattle.fields.specs.declared.ParseError.{ParseError}
+use Rattle.walk.specs.Walk.{walked_to, next_records}
 use Rattle.walk.specs.Demand3.{Call, rows, handed_out, Calls, slots_lent, Reports, Demand3}
 use Rattle.walk.specs.declared.Walked.{Walked}
-use Rattle.walk.specs.declared.WalkAnswer.{WalkAnswer}
-use Rattle.walk.specs.declared.WalkAnswer.TheVariants.{Walked as HasWalked, Refused as WalkRefused}
 
 -- Where a list has fewer than k members: as many as it has, in place of k, take and drop the same.
 module _ {A : Type 0} (k : ℕ) (l : List A) where
@@ -60,9 +61,9 @@ rows-laid t i (r ∷ rs) h =
     cc (here, rows-laid (put t i r) (suc i) rs (simp length-set (omega arith)))
 
 -- an answer that gives w is w
-pub answered : (r : WalkAnswer) {w : Walked} → says_walk r ≡ gives w → r ≡ HasWalked w
-answered (HasWalked v) e = ap HasWalked (gives_same e)
-answered (WalkRefused k) e = let z : ◌≡◌ {A = ℕ} 0 1 = cc in absurd (omega arith)
+pub answered : (r : Result Walked ParseError) {w : Walked} → says_answer r ≡ gives w → r ≡ Ok w
+answered (Ok v) e = ap Ok (gives_same e)
+answered (Err x) e = let z : ◌≡◌ {A = ℕ} 0 1 = cc in absurd (omega arith)
 
 module _ (s : List ℕ) (asked : Asked) (name : List ℕ) {g : Grid} (accepted : gives g ≡ grid s asked name) where
   -- Calls from the place after m records hand out those that come next, as many as there are slots, and report what they should.
@@ -76,7 +77,7 @@ module _ (s : List ℕ) (asked : Asked) (name : List ℕ) {g : Grid} (accepted :
       let next = next_records s g m k in
       let l : length next ≡ min k (length (active_of s g) - m) = simp (length-take, length-drop) in
       let d = q.0.reached asked name g m accepted h refl in
-      let e : c.answer ≡ HasWalked (walked_to s g m (length next)) = answered c.answer d.0 in
+      let e : c.answer ≡ Ok (walked_to s g m (length next)) = answered c.answer d.0 in
       let f : handed_out c ≡ next = rw (e, d.1) (rows-laid c.before 0 next (omega arith)) in
       let later = go_on (m + length next) cs (omega arith) (rw e at q.1) in
       let there = drop-there k (drop m (active_of s g)) in

@@ -15,7 +15,11 @@ use Rattle.place.specs.Inner.{Course, hand_on, moved, HandedOn}
 use Rattle.place.proofs.Cut.{hand-most}
 use Rattle.place.specs.declared.Place.{Place}
 use Rattle.place.specs.declared.Stand.{Stand}
-use Rattle.walk.specs.Walk.{says_walk, needed_next, LeftBehind, Promise}
+use Rattle.std.proofs.Common.{Result, Ok, Err}
+use Rattle.fields.specs.Says.{says_answer}
+use Rattle.fields.specs.declared.ParseError.{ParseError}
+use Rattle.fields.specs.declared.ParseError.TheVariants.{ForeignPlace}
+use Rattle.walk.specs.Walk.{needed_next, LeftBehind, Promise}
 use Rattle.walk.specs.Inner.{is_wide, wanted, course_from, found, stands, walk_from, Does}
 use Rattle.walk.proofs.Past.{nothing-there}
 use Rattle.walk.proofs.Reached.{does-next, length-nil}
@@ -23,8 +27,6 @@ use Rattle.fields.proofs.Answers.{gives_same}
 use Rattle.grid.proofs.Coverage.{grid-read}
 use Rattle.tree.specs.Active.{Record}
 use Rattle.walk.specs.declared.Walked.{Walked}
-use Rattle.walk.specs.declared.WalkAnswer.{WalkAnswer}
-use Rattle.walk.specs.declared.WalkAnswer.TheVariants.{Walked as HasWalked, Refused as WalkRefused}
 
 pub refuses-gives : {A : Type 0} {n : ℕ} {a : A} → refuses n ≡ gives a → ⊥
 refuses-gives e = let z : ◌≡◌ {A = ℕ} 0 1 = cc in absurd (omega arith)
@@ -77,22 +79,22 @@ module _ (s : List ℕ) (p : Place) (t : Slots) where
   abbrev k : ℕ
   k = slot_count t
 
-  pub does-nothing : {w : Walked} → wanted p k ≡ 0 → w ≡ record { place = p; filled = 0; left = p.left } → Does s p t (HasWalked w) t
+  pub does-nothing : {w : Walked} → wanted p k ≡ 0 → w ≡ record { place = p; filled = 0; left = p.left } → Does s p t (Ok w) t
   unfolding walk_from when
   does-nothing e d = record { answer = rw (d, e); slots = rw e }
 
-  pub not_wide : (wanted p k ≡ 0 → ⊥) → is_wide p.start.coding.width ≡ false → Does s p t (WalkRefused 22) t
+  pub not_wide : (wanted p k ≡ 0 → ⊥) → is_wide p.start.coding.width ≡ false → Does s p t (Err ForeignPlace) t
   unfolding walk_from found when laid_from
   not_wide n e = record { answer = rw (ne_eqb _ 0 n, e); slots = rw (ne_eqb _ 0 n, e) }
 
   module _ (some-wanted : wanted p k ≡ 0 → ⊥) (e : is_wide p.start.coding.width ≡ true) {t' : Slots} {v : Stand} (f : HandedOn (course_from s p k) t t' v) where
-    pub none_found : v.filled ≡ 0 → Does s p t (WalkRefused 22) t'
+    pub none_found : v.filled ≡ 0 → Does s p t (Err ForeignPlace) t'
     unfolding walk_from found when
     none_found z = record { answer = rw (ne_eqb _ 0 some-wanted, e, sym f.filled ∙ z); slots = rw (ne_eqb _ 0 some-wanted, e) f.slots }
 
     pub some-found :
         {w : Walked} {q : Place} → (v.filled ≡ 0 → ⊥) → q ≡ moved p (p.left - v.filled) v.cursor v.inside → w ≡ record { place = q; filled = v.filled; left = q.left } →
-        Does s p t (HasWalked w) t'
+        Does s p t (Ok w) t'
     unfolding walk_from found when
     some-found {w} {q} n d g =
         record {
@@ -112,11 +114,11 @@ found_some s p k = go (is_wide p.start.coding.width)
     go false e = absurd (true≢false e)
 
 -- What it answers, whatever the place is.
-module _ {s : List ℕ} {p : Place} {t : Slots} {r : WalkAnswer} {t' : Slots} (d : Does s p t r t') where
+module _ {s : List ℕ} {p : Place} {t : Slots} {r : Result Walked ParseError} {t' : Slots} (d : Does s p t r t') where
   abbrev rs : List Record
   rs = found s p (slot_count t)
 
-  does-refuse : (n : ℕ) → says_walk r ≡ refuses n → (n ≡ 22) × (t' ≡ t)
+  does-refuse : (n : ℕ) → says_answer r ≡ refuses n → (n ≡ 22) × (t' ≡ t)
   unfolding walk_from when laid_from
   does-refuse n e = go _ _ (eqb (wanted p (slot_count t)) 0) (eqb (length rs) 0) refl (sym e ∙ d.answer) d.slots
     where
@@ -125,7 +127,7 @@ module _ {s : List ℕ} {p : Place} {t : Slots} {r : WalkAnswer} {t' : Slots} (d
       go x y false true f e g = (refuses-same e, g ∙ rw (length-nil rs (eqb-true _ 0 f)))
       go x y false false f e g = absurd (refuses-gives e)
 
-  does-some : (w : Walked) → says_walk r ≡ gives w → (rs : List Record) × (length rs ≡ w.filled) × (w.filled ≤ slot_count t) × (t' ≡ laid_from t 0 rs)
+  does-some : (w : Walked) → says_answer r ≡ gives w → (rs : List Record) × (length rs ≡ w.filled) × (w.filled ≤ slot_count t) × (t' ≡ laid_from t 0 rs)
   unfolding walk_from when laid_from
   does-some w e = go (eqb (wanted p (slot_count t)) 0) (eqb (length rs) 0) refl (sym e ∙ d.answer) d.slots
     where
@@ -145,7 +147,7 @@ module _ {s : List ℕ} {p : Place} {t : Slots} {r : WalkAnswer} {t' : Slots} (d
           let z : w.filled ≡ length a.records = ap (λ (w : Walked). w.filled) (gives_same e) in
           (rs, ap length (found_some s p (slot_count t) f) ∙ sym z, rw z few, g)
 
-  does-left : (w : Walked) → says_walk r ≡ gives w → LeftBehind p (slot_count t) w
+  does-left : (w : Walked) → says_answer r ≡ gives w → LeftBehind p (slot_count t) w
   unfolding walk_from when
   does-left w e = go (eqb (wanted p (slot_count t)) 0) (eqb (length rs) 0) refl refl (sym e ∙ d.answer)
     where
@@ -170,13 +172,13 @@ module _ {s : List ℕ} {p : Place} {t : Slots} {r : WalkAnswer} {t' : Slots} (d
           let n : length a.records ≡ 0 → ⊥ = λ z. eqb-false _ 0 h (ap length (found_some s p (slot_count t) h) ∙ z) in
           rw (gives_same e) record { start = refl; most = few; left = refl; in_place = refl; some = λ i j. omega (arith, n) }
 
-  does-none : slot_count t ≡ 0 → says_walk r ≡ gives (record { place = p; filled = 0; left = p.left })
+  does-none : slot_count t ≡ 0 → says_answer r ≡ gives (record { place = p; filled = 0; left = p.left })
   unfolding walk_from when
   does-none e =
       let z : wanted p (slot_count t) ≡ 0 = rw e (no_more p.left) in
       d.answer ∙ rw z
 
-  does-past : 0 < slot_count t → 0 < p.left → length s < (needed_next p).start + (needed_next p).bytes → says_walk r ≡ refuses 22
+  does-past : 0 < slot_count t → 0 < p.left → length s < (needed_next p).start + (needed_next p).bytes → says_answer r ≡ refuses 22
   unfolding walk_from found when
   does-past a b f =
       let z = nothing-there s p (slot_count t) f in
@@ -187,7 +189,7 @@ module _ {s : List ℕ} {p : Place} {t : Slots} {r : WalkAnswer} {t' : Slots} (d
       go y false = refl
 
 -- It keeps its promise.
-pub keeps : (s : List ℕ) (p : Place) (t : Slots) {r : WalkAnswer} {t' : Slots} → Does s p t r t' → Promise s p t r t'
+pub keeps : (s : List ℕ) (p : Place) (t : Slots) {r : Result Walked ParseError} {t' : Slots} → Does s p t r t' → Promise s p t r t'
 keeps s p t {r} {t'} d =
     record {
       reached = λ asked name g m e l f. does-next s g (grid-read s asked name e) m l t (subst (λ (q : Place). Does s q t r t') f d);

@@ -19,9 +19,12 @@ use Rattle.place.specs.declared.Place.{Place}
 use Rattle.place.proofs.Places.{after_more, after-records}
 use Rattle.grid.specs.Grid.{Grid, active_of, start_of, place_after}
 use Rattle.grid.proofs.Coverage.{GridRead}
-use Rattle.walk.specs.Walk.{says_walk, next_records, walked_to}
+use Rattle.std.proofs.Common.{Result}
+use Rattle.fields.specs.Says.{says_answer}
+use Rattle.fields.specs.declared.ParseError.{ParseError}
+use Rattle.walk.specs.declared.Walked.{Walked}
+use Rattle.walk.specs.Walk.{next_records, walked_to}
 use Rattle.walk.specs.Inner.{wanted, course_from, found, stands, walk_from, Does}
-use Rattle.walk.specs.declared.WalkAnswer.{WalkAnswer}
 use Rattle.walk.proofs.Demand3.{take-there}
 use Rattle.walk.proofs.Wide.{wide_is}
 
@@ -105,9 +108,9 @@ module _ (s : List ℕ) (g : Grid) (h : GridRead s g) (m : ℕ) (l : m ≤ lengt
 
   -- So from the place after m records: the next ones, and the place after these.
   pub does-next :
-      (t : Slots) {r : WalkAnswer} {t' : Slots} → Does s (place_after s g m) t r t' →
-      (says_walk r ≡ gives (walked_to s g m (length (next_records s g m (slot_count t))))) × (t' ≡ laid_from t 0 (next_records s g m (slot_count t)))
+      (t : Slots) {r : Result Walked ParseError} {t' : Slots} → Does s (place_after s g m) t r t' →
+      (says_answer r ≡ gives (walked_to s g m (length (next_records s g m (slot_count t))))) × (t' ≡ laid_from t 0 (next_records s g m (slot_count t)))
   does-next t {r} {t'} d = go (rw (place_is m) at d)
     where
-      go : Does s here t r t' → (says_walk r ≡ gives (walked_to s g m (length (next_records s g m (slot_count t))))) × (t' ≡ laid_from t 0 (next_records s g m (slot_count t)))
+      go : Does s here t r t' → (says_answer r ≡ gives (walked_to s g m (length (next_records s g m (slot_count t))))) × (t' ≡ laid_from t 0 (next_records s g m (slot_count t)))
       go d = (d.answer ∙ answers (slot_count t), d.slots ∙ fills (slot_count t) t)

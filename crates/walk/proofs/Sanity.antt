@@ -14,9 +14,11 @@ use Rattle.place.specs.Inner.{place_from}
 use Rattle.place.specs.declared.Place.{Place}
 use Rattle.place.proofs.Places.{after_none}
 use Rattle.grid.specs.Grid.{Grid, grid, active_of, place_after}
-use Rattle.walk.specs.Walk.{says_walk, needed_next, Promise}
+use Rattle.std.proofs.Common.{Result}
+use Rattle.fields.specs.Says.{says_answer}
+use Rattle.fields.specs.declared.ParseError.{ParseError}
+use Rattle.walk.specs.Walk.{needed_next, Promise}
 use Rattle.walk.specs.declared.Walked.{Walked}
-use Rattle.walk.specs.declared.WalkAnswer.{WalkAnswer}
 
 -- the place after m records has the number left,
 pub place-left : (s : List ℕ) (g : Grid) (m : ℕ) → (place_after s g m).left ≡ length (active_of s g) - m
@@ -36,8 +38,8 @@ fresh-needs s g = rw (after_none s _)
 
 -- which no empty file has
 pub row-22 :
-    (s : List ℕ) (g : Grid) (before after : Slots) (r : WalkAnswer) → Promise [] (place_after s g 0) before r after → 0 < slot_count before → 0 < length (active_of s g) →
-    says_walk r ≡ refuses 22
+    (s : List ℕ) (g : Grid) (before after : Slots) (r : Result Walked ParseError) → Promise [] (place_after s g 0) before r after → 0 < slot_count before → 0 < length (active_of s g) →
+    says_answer r ≡ refuses 22
 row-22 s g before after r q a b =
     let n : 0 < (place_after s g 0).left = rw (place-left s g 0) (omega (arith, b)) in
     let l : length {A = ℕ} [] < (needed_next (place_after s g 0)).start + (needed_next (place_after s g 0)).bytes = rw (fresh-needs s g) (omega arith) in
@@ -45,7 +47,7 @@ row-22 s g before after r q a b =
 
 -- The first fact again, from the promise alone, whatever a place's words are: a call without slots tells how many are left.
 pub left-told :
-    (s : List ℕ) (asked : Asked) (name : List ℕ) (g : Grid) (m : ℕ) (before after : Slots) (r : WalkAnswer) → gives g ≡ grid s asked name → m ≤ length (active_of s g) →
+    (s : List ℕ) (asked : Asked) (name : List ℕ) (g : Grid) (m : ℕ) (before after : Slots) (r : Result Walked ParseError) → gives g ≡ grid s asked name → m ≤ length (active_of s g) →
     Promise s (place_after s g m) before r after → slot_count before ≡ 0 → (place_after s g m).left ≡ length (active_of s g) - m
 left-told s asked name g m before after r e l q z =
     let a = gives_same (sym (q.no-slots z) ∙ (q.reached asked name g m e l refl).0) in

@@ -1,7 +1,9 @@
 -- Demand 3: any list of walk calls over one accepted grid. The theorem is `demand3` in proofs/Demand3.antt.
-use Rattle.std.specs.Prelude.{ℕ, zero, suc, ◌+◌, ◌-◌, ◌<◌, min, ◌≡◌, ◌↔◌, true, pos, length, get_or, take}
+use Rattle.std.specs.Prelude.{ℕ, Result, Ok, Err, zero, suc, ◌+◌, ◌-◌, ◌<◌, min, ◌≡◌, ◌↔◌, true, pos, length, get_or, take}
 use mathlib.Core.List.{List, [], ◌∷◌, Memᴰ, flat_map}
 use Rattle.fields.specs.Answer.{gives}
+use Rattle.fields.specs.Says.{says_answer}
+use Rattle.fields.specs.declared.ParseError.{ParseError}
 use Rattle.archive.specs.declared.Asked.{Asked}
 use Rattle.coordinates.specs.declared.GlobalCoord.{GlobalCoord}
 use Rattle.tree.specs.Active.{Record, covered_by}
@@ -10,15 +12,13 @@ use Rattle.place.specs.declared.Place.{Place}
 use Rattle.grid.specs.Grid as G
 use Rattle.grid.specs.Grid.{Grid, active_of, spot_of}
 use Rattle.grid.specs.declared.OpenedGrid.{OpenedGrid}
-use Rattle.walk.specs.Walk.{says_walk, Promise}
+use Rattle.walk.specs.Walk.{Promise}
 use Rattle.walk.specs.declared.Walked.{Walked}
-use Rattle.walk.specs.declared.WalkAnswer.{WalkAnswer}
-use Rattle.walk.specs.declared.WalkAnswer.TheVariants.{Walked as HasWalked, Refused as WalkRefused}
 
 -- A walk call, as it ended: the slots lent, the answer, and what the slots then hold.
 pub record Call : Type 0 where
   pub before : Slots
-  pub answer : WalkAnswer
+  pub answer : Result Walked ParseError
   pub after : Slots
 
 -- the records in the n slots from slot i on
@@ -28,17 +28,17 @@ rows t i (suc n) =
     record { corner = (get_or t.x i (pos 0), get_or t.y i (pos 0), get_or t.z i (pos 0)); level = get_or t.level i 0; value = get_or t.value i 0 } ∷ rows t (suc i) n
 
 -- what a call hands out: the records in its filled slots as it ends; none where it is refused
-abbrev pub in_slots : WalkAnswer → Slots → List Record
-in_slots (HasWalked w) t = rows t 0 w.filled
-in_slots (WalkRefused k) t = []
+abbrev pub in_slots : Result Walked ParseError → Slots → List Record
+in_slots (Ok w) t = rows t 0 w.filled
+in_slots (Err e) t = []
 
 abbrev pub handed_out : Call → List Record
 handed_out c = in_slots c.answer c.after
 
 -- what holds of the place that an answer hands back; a refused call hands none back
-abbrev pub HandsBack : WalkAnswer → (Place → Type 0) → Type 0 → Type 0
-HandsBack (HasWalked w) holds none = holds w.place
-HandsBack (WalkRefused k) holds none = none
+abbrev pub HandsBack : Result Walked ParseError → (Place → Type 0) → Type 0 → Type 0
+HandsBack (Ok w) holds none = holds w.place
+HandsBack (Err e) holds none = none
 
 -- Calls over the bytes s, the first from the place p, each later one from the place that the call before it handed back.
 abbrev pub Calls : List ℕ → Place → List Call → Type 0
@@ -55,7 +55,7 @@ slots_lent (c ∷ cs) = slot_count c.before + slots_lent cs
 abbrev pub Reports : ℕ → ℕ → List Call → Type 0
 Reports n done [] = Unit {0}
 Reports n done (c ∷ cs) =
-    ((w : Walked) × (says_walk c.answer ≡ gives w) × (w.filled ≡ min (slot_count c.before) (n - done)) × (length (handed_out c) ≡ w.filled)
+    ((w : Walked) × (says_answer c.answer ≡ gives w) × (w.filled ≡ min (slot_count c.before) (n - done)) × (length (handed_out c) ≡ w.filled)
     × (w.left ≡ n - (done + w.filled)))
     × Reports n (done + length (handed_out c)) cs
 

@@ -1,15 +1,15 @@
 -- Inner matter: only contracts of inner functions cite it, and nothing here has to be believed.
 -- What a walk call does from any place.
-use Rattle.std.specs.Prelude.{ℕ, ◌-◌, min, List, [], Bool, ◌||◌, ◌≡◌, eqb, length}
+use Rattle.std.specs.Prelude.{ℕ, Result, ◌-◌, min, List, [], Bool, ◌||◌, ◌≡◌, eqb, length}
 use Rattle.fields.specs.Parse.{when}
 use Rattle.fields.specs.Answer.{Answer, gives, refuses}
+use Rattle.fields.specs.Says.{says_answer}
+use Rattle.fields.specs.declared.ParseError.{ParseError}
 use Rattle.tree.specs.Active.{Record}
 use Rattle.slots.specs.Slots.{Slots, slot_count, laid_from}
 use Rattle.place.specs.Inner.{Course, hand_on, moved}
 use Rattle.place.specs.declared.Place.{Place}
-use Rattle.walk.specs.Walk.{says_walk}
 use Rattle.walk.specs.declared.Walked.{Walked}
-use Rattle.walk.specs.declared.WalkAnswer.{WalkAnswer}
 
 -- a width that values can have
 abbrev pub is_wide : ℕ → Bool
@@ -36,6 +36,6 @@ walk_from s p k =
     (when (eqb (length (found s p k)) 0) (refuses 22) (gives (stands p (course_from s p k))))
 
 -- the call does this
-pub record Does (s : List ℕ) (p : Place) (before : Slots) (r : WalkAnswer) (after : Slots) : Type 0 where
-  pub answer : says_walk r ≡ walk_from s p (slot_count before)
+pub record Does (s : List ℕ) (p : Place) (before : Slots) (r : Result Walked ParseError) (after : Slots) : Type 0 where
+  pub answer : says_answer r ≡ walk_from s p (slot_count before)
   pub slots : after ≡ when (eqb (wanted p (slot_count before)) 0) before (laid_from before 0 (found s p (slot_count before)))

@@ -1,20 +1,16 @@
 -- Section 7: what a walk call promises.
-use Rattle.std.specs.Prelude.{ℕ, ◌+◌, ◌-◌, ◌/◌, ◌≤◌, ◌<◌, ◌≡◌, List, ltb, eqb, length, take, drop}
+use Rattle.std.specs.Prelude.{ℕ, Result, ◌+◌, ◌-◌, ◌/◌, ◌≤◌, ◌<◌, ◌≡◌, List, ltb, eqb, length, take, drop}
 use Rattle.fields.specs.Parse.{when}
 use Rattle.coordinates.specs.Coordinates.{places}
-use Rattle.fields.specs.Answer.{Answer, gives, refuses}
+use Rattle.fields.specs.Answer.{gives, refuses}
+use Rattle.fields.specs.Says.{says_answer}
+use Rattle.fields.specs.declared.ParseError.{ParseError}
 use Rattle.archive.specs.declared.Asked.{Asked}
 use Rattle.tree.specs.Active.{Record, edge_of}
 use Rattle.slots.specs.Slots.{Slots, slot_count, laid_from}
 use Rattle.grid.specs.Grid.{Grid, grid, active_of, place_after}
 use Rattle.place.specs.declared.Place.{Place}
 use Rattle.walk.specs.declared.Walked.{Walked}
-use Rattle.walk.specs.declared.WalkAnswer.{WalkAnswer}
-use Rattle.walk.specs.declared.WalkAnswer.TheVariants.{Walked as HasWalked, Refused as WalkRefused}
-
-abbrev pub says_walk : WalkAnswer → Answer Walked
-says_walk (HasWalked w) = gives w
-says_walk (WalkRefused k) = refuses k
 
 -- the next records of a grid's active list after its first m, for k slots
 abbrev pub next_records : List ℕ → Grid → ℕ → ℕ → List Record
@@ -49,19 +45,19 @@ pub record LeftBehind (p : Place) (k : ℕ) (w : Walked) : Type 0 where
   pub some : 0 < k → 0 < p.left → 0 < w.filled
 
 -- A call over the bytes s from the place p, with the slots before and after it, and its answer.
-pub record Promise (s : List ℕ) (p : Place) (before : Slots) (r : WalkAnswer) (after : Slots) : Type 0 where
+pub record Promise (s : List ℕ) (p : Place) (before : Slots) (r : Result Walked ParseError) (after : Slots) : Type 0 where
   -- From a place of a grid over these bytes, the place after m of its records: the next records, as many as there are slots, stand in these from the
   -- first one on.
   pub reached :
       (asked : Asked) (name : List ℕ) (g : Grid) (m : ℕ) → gives g ≡ grid s asked name → m ≤ length (active_of s g) → p ≡ place_after s g m →
-      (says_walk r ≡ gives (walked_to s g m (length (next_records s g m (slot_count before))))) × (after ≡ laid_from before 0 (next_records s g m (slot_count before)))
+      (says_answer r ≡ gives (walked_to s g m (length (next_records s g m (slot_count before))))) × (after ≡ laid_from before 0 (next_records s g m (slot_count before)))
   -- From any place: some records, no more than there are slots, and all other slots are as they were; or 22, and all slots are.
   pub some-records :
-      (w : Walked) → says_walk r ≡ gives w → (rs : List Record) × (length rs ≡ w.filled) × (w.filled ≤ slot_count before) × (after ≡ laid_from before 0 rs)
-  pub refused : (k : ℕ) → says_walk r ≡ refuses k → (k ≡ 22) × (after ≡ before)
+      (w : Walked) → says_answer r ≡ gives w → (rs : List Record) × (length rs ≡ w.filled) × (w.filled ≤ slot_count before) × (after ≡ laid_from before 0 rs)
+  pub refused : (k : ℕ) → says_answer r ≡ refuses k → (k ≡ 22) × (after ≡ before)
   -- What is left behind these records, also from any place.
-  pub left_behind : (w : Walked) → says_walk r ≡ gives w → LeftBehind p (slot_count before) w
+  pub left_behind : (w : Walked) → says_answer r ≡ gives w → LeftBehind p (slot_count before) w
   -- Without slots nothing changes.
-  pub no-slots : slot_count before ≡ 0 → says_walk r ≡ gives (record { place = p; filled = 0; left = p.left })
+  pub no-slots : slot_count before ≡ 0 → says_answer r ≡ gives (record { place = p; filled = 0; left = p.left })
   -- Where slots are lent, records are left, and the field that is needed next lies past the file's end, it is 22.
-  pub past_end : 0 < slot_count before → 0 < p.left → length s < (needed_next p).start + (needed_next p).bytes → says_walk r ≡ refuses 22
+  pub past_end : 0 < slot_count before → 0 < p.left → length s < (needed_next p).start + (needed_next p).bytes → says_answer r ≡ refuses 22

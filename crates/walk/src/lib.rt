@@ -5,6 +5,7 @@ ghost use Rattle.std.specs.Prelude.{◌≡◌, min};
 ghost use Rattle.slots.specs.Slots.{slots_of};
 ghost use Rattle.walk.specs.Walk.{Promise};
 
+use fields::ParseError;
 use place::Place;
 
 // The walk's next place, how many slots are filled, and how many records are left.
@@ -15,30 +16,12 @@ pub struct Walked {
     pub left: u64,
 }
 
-#[derive(Drop)]
-pub enum WalkAnswer {
-    Walked(Walked),
-    Refused(u32),
-}
-
-fn smaller(a: usize, b: usize) -> usize
-    ensures { result ≡ min a b }
-{
-    if a < b {
-        return a;
-    }
-    b
-}
-
 // How many records can be handed out: as many as the shortest slice has slots, and no more than are left.
 fn record_count(x: usize, y: usize, z: usize, level: usize, value: usize, left: u64) -> usize
     ensures { result ≡ min (min x (min y (min z (min level value)))) left }
 {
-    let slots = smaller(x, smaller(y, smaller(z, smaller(level, value))));
-    if left < slots as u64 {
-        return left as usize;
-    }
-    slots
+    let slots = x.min(y.min(z.min(level.min(value))));
+    (slots as u64).min(left) as usize
 }
 
 // Fills a row of record slots from its start with the records that follow a place: as many as the shortest slice has slots, and no more than are left. A
@@ -51,34 +34,29 @@ pub fn walk(
     z: &mut [i32],
     level: &mut [u32],
     value: &mut [u32],
-) -> WalkAnswer
+) -> Result<Walked, ParseError>
     ensures { Promise s.now p (slots_of x.old y.old z.old level.old value.old) result (slots_of x.new y.new z.new level.new value.new) }
 {
     let limit = record_count(x.len(), y.len(), z.len(), level.len(), value.len(), p.left);
     if limit == 0 {
-        let stays = Walked {
+        return Ok(Walked {
             place: p,
             filled: 0,
             left: p.left,
-        };
-        return WalkAnswer::Walked(stays);
+        });
     }
-    let start = p.start;
-    let coding = start.coding;
+    let coding = p.start.coding;
     if !place::is_wide(coding.width) {
-        return WalkAnswer::Refused(22);
+        return Err(ParseError::ForeignPlace);
     }
-    let cursor = p.cursor;
-    let inside = p.inside;
-    let at = place::hand_on(s, coding, cursor, inside, limit, x, y, z, level, value);
+    let at = place::hand_on(s, coding, p.cursor, p.inside, limit, x, y, z, level, value);
     if at.filled == 0 {
-        return WalkAnswer::Refused(22);
+        return Err(ParseError::ForeignPlace);
     }
     let next = p.moved_to(at);
-    let walked = Walked {
+    Ok(Walked {
         place: next,
         filled: at.filled,
         left: next.left,
-    };
-    WalkAnswer::Walked(walked)
+    })
 }
