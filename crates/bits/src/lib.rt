@@ -58,8 +58,8 @@ fn pass(b: Bits, z: u32) -> Inside
     ensures { result ≡ passed b z }
 {
     let mut w = b.inside;
-    w.number = w.number + skip(w.stored, b.children, z);
-    w.from = w.from + z;
+    w.number += skip(w.stored, b.children, z);
+    w.from += z;
     w
 }
 
@@ -83,8 +83,8 @@ fn past_active(b: Bits) -> Bits
     ensures { result ≡ past_active b 1 }
 {
     let mut inside = b.inside;
-    inside.from = inside.from + 1;
-    inside.number = inside.number + 1;
+    inside.from += 1;
+    inside.number += 1;
     Bits {
         inside,
         left: b.left - 1,
