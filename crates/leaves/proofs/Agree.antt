@@ -4,7 +4,7 @@ use mathlib.Core.List.{List, [], ◌∷◌}
 use Prim.Native.Nat.{ℕ, zero, suc}
 use native.Mathlib.Omega.{arith}
 use lib.Dec.{eqb}
-use lib.ListN.{get_elem?}
+use Rattle.std.proofs.Common.{slice_get}
 use Rattle.fields.specs.Parse.{when}
 use Rattle.fields.proofs.Agree.{Each}
 use Rattle.fields.specs.Answer.{gives, refuses}
@@ -19,7 +19,7 @@ use Rattle.grid.specs.Grid.{grid}
 use Rattle.grid.proofs.Agree.{SameAsked, grid-again}
 use Rattle.leaves.specs.Leaves.{leaf_numbered, present_leaf, fill_leaf}
 
-leaf-maybe : (P : Block → Type 0) (l : List Block) (k : ℕ) {b : Block} → Each P l → gives b ≡ present_leaf (get_elem? l k) → P b
+leaf-maybe : (P : Block → Type 0) (l : List Block) (k : ℕ) {b : Block} → Each P l → gives b ≡ present_leaf (slice_get l k) → P b
 unfolding present_leaf
 leaf-maybe P [] k h e = let z : ◌≡◌ {A = ℕ} 0 1 = cc in absurd (omega arith)
 leaf-maybe P (a ∷ l) zero h e = rw (gives_same e) h.0

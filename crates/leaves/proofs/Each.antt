@@ -2,11 +2,11 @@
 use mathlib.Core.Path.{◌≡◌, refl, sym, ap, ◌∙◌}
 use mathlib.Core.List.{List, [], ◌∷◌, flat_map}
 use mathlib.Core.Bool.{Bool, true, false, ◌&&◌}
-use mathlib.Core.Option.{some}
+use Rattle.std.proofs.Common.{Some, slice_get}
 use Prim.Native.Nat.{ℕ, zero, suc, ◌+◌, ◌-◌, ◌*◌, ◌/◌, ◌%◌, ◌≤◌, ◌<◌}
 use native.Mathlib.Omega.{arith}
 use lib.Dec.{eqb, leb}
-use lib.ListN.{length, take, drop, get_elem?, length-drop}
+use lib.ListN.{length, take, drop, length-drop}
 use lib.Seq.{take_at, drop_at, drop-drop}
 use borrow.Author.Tests.{leb-true}
 use Rattle.fields.specs.Parse.{when}
@@ -29,7 +29,7 @@ values_length s c child value v p zero = refl
 values_length s c child value v p (suc k) = ap suc (values_length s c child value v (suc p) k)
 
 -- the leaf with the number i behind the first ones
-from_first : (bs : List Block) (first i : ℕ) → get_elem? bs (first + i) ≡ get_elem? (drop first bs) i
+from_first : (bs : List Block) (first i : ℕ) → slice_get bs (first + i) ≡ slice_get (drop first bs) i
 from_first bs zero i = let e : 0 + i ≡ i = omega arith in rw e
 from_first [] (suc k) i = refl
 from_first (b ∷ bs) (suc k) i = let e : suc k + i ≡ suc (k + i) = omega arith in rw e (from_first bs k i)
@@ -39,7 +39,7 @@ module _ (s : List ℕ) (c : Coding) where
   values b = leaf_values s c b.mask b.values
 
   one_of :
-      (l : List Block) (i n : ℕ) → i < n → n ≤ length l → (b : Block) × (some b ≡ get_elem? l i) × (take 512 (drop (512 * i) (flat_map values (take n l))) ≡ values b)
+      (l : List Block) (i n : ℕ) → i < n → n ≤ length l → (b : Block) × (Some b ≡ slice_get l i) × (take 512 (drop (512 * i) (flat_map values (take n l))) ≡ values b)
   unfolding flat_map
   one_of [] i n h k = absurd (omega arith)
   one_of (b ∷ l) zero zero h k = absurd (omega arith)

@@ -5,7 +5,14 @@ use Prim.Native.Nat.{ℕ, suc, ◌-◌, ◌/◌, ◌≤◌, ◌<◌}
 use native.Mathlib.Omega.{arith}
 use lib.ListN.{length, drop, length-append}
 use lib.Seq.{drop_at}
+use Rattle.std.proofs.Common.{Result}
+use Rattle.std.specs.Result.{IsErrAnd}
+use Rattle.std.proofs.lemmas.Result.{err_from_is_err_and}
+use Rattle.fields.specs.Answer.{Answer, refuses}
+use Rattle.fields.specs.Says.{number}
+use Rattle.fields.specs.declared.ParseError.{ParseError}
 use Rattle.tree.specs.Active.{Piece}
+use Rattle.leaves.specs.Answers.{says_fill, KeptBy}
 use Rattle.leaves.specs.Inner.{from_leaves}
 
 -- A run that is being laid out: what is done, with what n of the leaves l to come give, but for the first ones, is all.
@@ -44,3 +51,10 @@ pub no-slots : (f : Piece → List ℕ) (l : List Piece) (first : ℕ) (slots : 
 unfolding flat_map
 no-slots f l first [] e = refl
 no-slots f l first (x ∷ slots) e = absurd (omega arith)
+
+-- the refusal e that a `?` hands on, while the slots are as they were
+pub handed-on-fill :
+    {A : Type 0} (r : Result Unit ParseError) (e : ParseError) (slots : A) {x : Answer A} → IsErrAnd r (λ d. d ≡ e) → refuses (number e) ≡ x → (says_fill r slots ≡ x) × KeptBy r slots slots
+handed-on-fill r e slots h k =
+    let p = err_from_is_err_and r h in
+    rw p.1 (ap (λ d. refuses (number d)) p.2 ∙ k, refl)

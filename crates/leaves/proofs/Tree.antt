@@ -2,11 +2,11 @@
 use mathlib.Core.Path.{◌≡◌, refl, sym, ap, subst, ◌∙◌}
 use mathlib.Core.List.{List, [], ◌∷◌, ◌++◌, map, map-append, append-nil, flat_map}
 use mathlib.Core.Bool.{Bool, true, false, ◌&&◌}
-use mathlib.Core.Option.{Option, none, some}
+use Rattle.std.proofs.Common.{Option, None, Some, slice_get}
 use Prim.Native.Nat.{ℕ, zero, suc, ◌-◌, ◌/◌, ◌%◌}
 use native.Mathlib.Omega.{arith}
 use lib.Dec.{eqb, leb}
-use lib.ListN.{length, take, drop, get_elem?, length-map}
+use lib.ListN.{length, take, drop, length-map}
 use borrow.Author.Tests.{le-leb, lt-leb, leb-true, eqb-true}
 use Rattle.fields.specs.Parse.{when}
 use Rattle.fields.proofs.Laws.{when_true, when_false}
@@ -91,7 +91,7 @@ of-grid s g h =
 -- A single leaf is a run of one.
 one-run :
     (f : Block → List ℕ) (bs : List Block) (k : ℕ) →
-    with (present_leaf (get_elem? bs k)) (λ b. gives (f b)) ≡ when (leb 1 (length bs - k)) (gives (flat_map f (take 1 (drop k bs)))) (refuses 21)
+    with (present_leaf (slice_get bs k)) (λ b. gives (f b)) ≡ when (leb 1 (length bs - k)) (gives (flat_map f (take 1 (drop k bs)))) (refuses 21)
 unfolding present_leaf with when flat_map
 one-run f [] k = rw (lt-leb 1 (0 - k) (omega arith))
 one-run f (b ∷ bs) zero = rw (le-leb 1 (suc (length bs) - 0) (omega arith), append-nil)
@@ -101,8 +101,8 @@ one-run f (b ∷ bs) (suc k) =
 
 no-leaf : (o : Option Block) → ◌≡◌ {A = Answer (List ℕ)} (with (present_leaf o) (λ b. refuses 21)) (refuses 21)
 unfolding present_leaf with
-no-leaf none = refl
-no-leaf (some b) = refl
+no-leaf None = refl
+no-leaf (Some b) = refl
 
 -- What a run of leaves answers: over the grid that is asked for, check 21, and then what n of its leaves give, but for the first ones, in the form w.
 abbrev pub running : {A B : Type 0} → List ℕ → Asked → List ℕ → Bool → ℕ → ℕ → (Coding → Piece → List A) → (List A → B) → Answer B

@@ -1,8 +1,6 @@
 -- Section 6: the values of a leaf, and of a run of leaves that are filled with one opening of the grid.
-use Rattle.std.specs.Prelude.{ℕ, ◌-◌, ◌/◌, ◌%◌, ◌&&◌, eqb, leb, length, take, drop}
+use Rattle.std.specs.Prelude.{ℕ, ◌-◌, ◌/◌, ◌%◌, ◌&&◌, Option, None, Some, eqb, leb, length, take, drop, slice_get}
 use mathlib.Core.List.{List, [], flat_map}
-use Rattle.std.proofs.Math.Option.{Option, none, some}
-use Rattle.std.proofs.Math.ListN.{get_elem?}
 use Rattle.fields.specs.Parse.{when}
 use Rattle.fields.specs.Answer.{Answer, gives, refuses, with}
 use Rattle.archive.specs.declared.Asked.{Asked}
@@ -15,12 +13,12 @@ use Rattle.grid.specs.Grid.{Grid, grid}
 
 -- a leaf by its number from 0, in the order of the topology
 abbrev pub leaf_numbered : ℕ → List Filled5 → Option Block
-leaf_numbered k filled = get_elem? (all_blocks filled) k
+leaf_numbered k filled = slice_get (all_blocks filled) k
 
 -- check 21: there is such a leaf
 unfoldable pub present_leaf : Option Block → Answer Block
-present_leaf (some b) = gives b
-present_leaf none = refuses 21
+present_leaf (Some b) = gives b
+present_leaf None = refuses 21
 
 -- section 6: the fill opens the grid, then comes check 21, for the leaf and for the number of slots; it leaves the leaf's values in these
 unfoldable pub fill_leaf : List ℕ → Asked → List ℕ → ℕ → ℕ → Answer (List ℕ)

@@ -4,10 +4,9 @@ use mathlib.Core.List.{List}
 use Prim.Native.Nat.{ℕ, suc, ◌-◌, ◌≤◌, ◌<◌}
 use native.Mathlib.Omega.{arith}
 use lib.ListN.{length, drop}
-use Rattle.fields.proofs.Laws.{told}
 use Rattle.cursor.specs.Inner.{Stop, to_come}
 use Rattle.cursor.specs.declared.Cursor.{Cursor}
-use Rattle.skip.specs.Inner.{before, skip_from, says_skip}
+use Rattle.skip.specs.Inner.{before, skip_from}
 use Rattle.skip.proofs.Laws.{records_in}
 use Rattle.skip.proofs.Few.{few-records}
 use Rattle.place.specs.declared.Start.{Start}
@@ -32,11 +31,14 @@ module _ (s : List ℕ) (t : Start) {x : Cursor} (e : x ≡ start_cursor t) {fir
 pub returns-then-first-eq0 : goal.returns-then-first-eq0
 returns-then-first-eq0 c = rw (c.if-first-eq0.true, c.between_roots-x.ensures)
 
-pub returns-in-End : goal.returns-in-End
-returns-in-End c = absurd (no_end _ _ c.requires.width _ (few _ _ c.between_roots-x.ensures c.requires) _ (more _ _ c.between_roots-x.ensures c.requires c.if-first-eq0.false) (told says_skip c.in-End.is c.skip.ensures))
+pub unreachable-requires : goal.unreachable-requires
+unreachable-requires c =
+    no_end _ _ c.requires.width _ (few _ _ c.between_roots-x.ensures c.requires) _ (more _ _ c.between_roots-x.ensures c.requires c.if-first-eq0.false)
+    (rw c.in-Ok-End.field-0-is at c.in-Ok-End.ensures)
 
-pub returns-in-Refused : goal.returns-in-Refused
-returns-in-Refused c = absurd (no-refusal _ _ c.requires.width _ (few _ _ c.between_roots-x.ensures c.requires) _ (more _ _ c.between_roots-x.ensures c.requires c.if-first-eq0.false) (told says_skip c.in-Refused.is c.skip.ensures))
+pub unreachable-requires-in-Err : goal.unreachable-requires-in-Err
+unreachable-requires-in-Err c =
+    no-refusal _ _ c.requires.width _ (few _ _ c.between_roots-x.ensures c.requires) _ (more _ _ c.between_roots-x.ensures c.requires c.if-first-eq0.false) c.in-Err.ensures
 
-pub returns-in-Before : goal.returns-in-Before
-returns-in-Before c = behind _ _ c.between_roots-x.ensures c.requires c.if-first-eq0.false (told says_skip c.in-Before.is c.skip.ensures)
+pub returns : goal.returns
+returns c = behind _ _ c.between_roots-x.ensures c.requires c.if-first-eq0.false (rw c.in-Ok-Before.field-0-is at c.in-Ok-Before.ensures)

@@ -1,36 +1,31 @@
 -- The grid is opened, the slots and the leaves are tested, and then the run is filled.
-use mathlib.Core.Path.{◌≡◌, refl, ap, ◌∙◌}
+use mathlib.Core.Path.{refl, ap, ◌∙◌}
 use Prim.Native.Nat.{◌/◌}
 use lib.ListN.{length}
-use Rattle.fields.proofs.Laws.{told}
 use Rattle.fields.specs.Answer.{gives}
-use Rattle.grid.specs.Grid.{open_grid}
-use Rattle.grid.specs.Answers.{says_grid_answer}
 use Rattle.leaves.specs.Inner.{right_slots, values_in}
+use Rattle.leaves.proofs.Laws.{handed-on-fill}
 use Rattle.leaves.proofs.Tree.{Runs, run-refuses, run-absent, run-gives, run-enough, filling, fill-runs, whole-slots}
 use Rattle.leaves.proofs.fill_asked.Goals as goal
-use Rattle.leaves.proofs.fill_asked.Goals.{In-Grid, Start}
+use Rattle.leaves.proofs.fill_asked.Goals.{Start}
 
-opened : (c : In-Grid) → gives c.in-Grid.g ≡ open_grid c.args.s.now c.args.asked c.args.name.now
-opened c = told says_grid_answer c.in-Grid.is c.open_grid.ensures
-
--- and that what is asked for is a run
+-- what is asked for is a run
 runs : (a : Start) → let p = a.args in
     Runs p.s.now p.asked p.name.now (right_slots p.single (length p.slots.now)) p.first (length p.slots.now / 512) (values_in p.s.now) (λ v. v)
     (filling p.s.now p.asked p.name.now p.single p.first (length p.slots.now))
 runs a = fill-runs _ _ _ _ _ _
 
 pub returns-then-not-fits : goal.returns-then-not-fits
-returns-then-not-fits c = (run-absent (runs (goal.at.returns-then-not-fits c).Start) (opened (goal.at.returns-then-not-fits c).In-Grid) c.fits.ensures c.if-not-fits.true, refl)
+returns-then-not-fits c = (run-absent (runs (goal.at.returns-then-not-fits c).Start) c.in_ok-g.ensures c.fits.ensures c.if-not-fits.true, refl)
 
 pub fill_run-requires : goal.fill_run-requires
 fill_run-requires c =
-    let h = run-enough (runs (goal.at.fill_run-requires c).Start) (opened (goal.at.fill_run-requires c).In-Grid) c.fits.ensures c.if-not-fits.false in
+    let h = run-enough (runs (goal.at.fill_run-requires c).Start) c.in_ok-g.ensures c.fits.ensures c.if-not-fits.false in
     (h.1, whole-slots _ _ h.0)
 
-pub returns-in-Refused : goal.returns-in-Refused
-returns-in-Refused c = (run-refuses (runs (goal.at.returns-in-Refused c).Start) _ (told says_grid_answer c.in-Refused.is c.open_grid.ensures), refl)
+pub returns-in_err-g : goal.returns-in_err-g
+returns-in_err-g c = handed-on-fill _ _ _ c.from_residual.ensures.1 (run-refuses (runs (goal.at.returns-in_err-g c).Start) _ c.in_err-g.ensures)
 
-pub returns-else-not-fits : goal.returns-else-not-fits
-returns-else-not-fits c =
-    (ap gives c.fill_run.ensures ∙ run-gives (runs (goal.at.returns-else-not-fits c).Start) (opened (goal.at.returns-else-not-fits c).In-Grid) c.fits.ensures c.if-not-fits.false, tt)
+pub returns : goal.returns
+returns c =
+    (ap gives c.fill_run.ensures ∙ run-gives (runs (goal.at.returns c).Start) c.in_ok-g.ensures c.fits.ensures c.if-not-fits.false, tt)
