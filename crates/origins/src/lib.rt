@@ -9,8 +9,7 @@ ghost use Rattle.origins.specs.Inner.{origins_from};
 
 use archive::Asked;
 use coordinates::GlobalCoord;
-use grid::GridAnswer;
-use leaves::FillAnswer;
+use fields::ParseError;
 use place::Start;
 use skip::Skipped;
 
@@ -19,12 +18,9 @@ fn put_origin(i: usize, o: GlobalCoord, x: &mut [i32], y: &mut [i32], z: &mut [i
     requires { (i < length x.old) × (i < length y.old) × (i < length z.old) }
     ensures { axes x.new y.new z.new ≡ axes (set x.old i o.0) (set y.old i o.1) (set z.old i o.2) }
 {
-    let ox = o.0;
-    let oy = o.1;
-    let oz = o.2;
-    x[i] = ox;
-    y[i] = oy;
-    z[i] = oz;
+    x[i] = o.0;
+    y[i] = o.1;
+    z[i] = o.2;
 }
 
 // Writes the origins of the leaves that a cursor hands out, but for the first ones. No tree has as many records as may be passed between two leaves, so
@@ -33,22 +29,17 @@ fn origins_run(s: &[u8], start: Start, first: u64, x: &mut [i32], y: &mut [i32],
     requires { HasLeaves s.now start first (length x.old) × (length x.old ≡ length y.old) × (length x.old ≡ length z.old) }
     ensures { axes x.new y.new z.new ≡ axes_of (origins_from s.now start first (length x.old)) }
 {
-    let c = start.coding;
     let mut cursor = cursor::between_roots(start.root_count, start.roots_pos, start.block_pos);
     let mut pass = first;
-    let mut at = 0;
-    while at < x.len() {
-        match skip::skip(s, c, cursor, 0xffff_ffff_ffff_ffff, pass) {
-            Skipped::End(_, _) => return,
-            Skipped::Refused(_) => return,
-            Skipped::Before(q, behind, _, _) => {
-                let origin = q.origin;
-                put_origin(at, origin, x, y, z);
-                cursor = behind;
-                pass = 0;
-                at = at + 1;
-            }
-        }
+    for i in 0..x.len() {
+        let (piece, behind) = match skip::skip(s, start.coding, cursor, u64::MAX, pass) {
+            Ok(Skipped::Before { piece, behind, .. }) => (piece, behind),
+            Ok(Skipped::End { .. }) => unreachable!(),
+            Err(_) => unreachable!(),
+        };
+        put_origin(i, piece.origin, x, y, z);
+        cursor = behind;
+        pass = 0;
     }
 }
 
@@ -56,13 +47,7 @@ fn origins_run(s: &[u8], start: Start, first: u64, x: &mut [i32], y: &mut [i32],
 fn fits(nx: usize, ny: usize, nz: usize, count: u64, first: u64) -> bool
     ensures { result ≡ (same_lengths nx ny nz && leb nx (count - first)) }
 {
-    if nx != ny {
-        return false;
-    }
-    if nx != nz {
-        return false;
-    }
-    leaves::has_run(count, first, nx)
+    nx == ny && nx == nz && leaves::has_run(count, first, nx)
 }
 
 // Writes the origins of the leaves from a number on of the grid that is asked for, as many as the slices are long. A refused call leaves these as they
@@ -75,21 +60,15 @@ fn origins_asked(
     x: &mut [i32],
     y: &mut [i32],
     z: &mut [i32],
-) -> FillAnswer
+) -> Result<(), ParseError>
     ensures { (says_fill result (axes x.new y.new z.new) ≡ leaf_origins s.now asked name.now first (length x.old) (length y.old) (length z.old)) × KeptBy result (axes x.old y.old z.old) (axes x.new y.new z.new) }
 {
-    match grid::open_grid(s, asked, name) {
-        GridAnswer::Refused(k) => FillAnswer::Refused(k),
-        GridAnswer::Grid(g) => {
-            let place = g.place;
-            let start = place.start;
-            if !fits(x.len(), y.len(), z.len(), g.leaf_count, first) {
-                return FillAnswer::Refused(21);
-            }
-            origins_run(s, start, first, x, y, z);
-            FillAnswer::Filled
-        }
+    let g = grid::open_grid(s, asked, name)?;
+    if !fits(x.len(), y.len(), z.len(), g.leaf_count, first) {
+        return Err(ParseError::NoSuchLeaf);
     }
+    origins_run(s, g.place.start, first, x, y, z);
+    Ok(())
 }
 
 // Writes the origins of the leaves from a number on, in topology order, of the grid of this name.
@@ -100,7 +79,7 @@ pub fn origins_named(
     x: &mut [i32],
     y: &mut [i32],
     z: &mut [i32],
-) -> FillAnswer
+) -> Result<(), ParseError>
     ensures { (says_fill result (axes x.new y.new z.new) ≡ leaf_origins_named s.now name.now first (length x.old) (length y.old) (length z.old)) × KeptBy result (axes x.old y.old z.old) (axes x.new y.new z.new) }
 {
     origins_asked(s, Asked::ByName, name, first, x, y, z)
@@ -114,7 +93,7 @@ pub fn origins_numbered(
     x: &mut [i32],
     y: &mut [i32],
     z: &mut [i32],
-) -> FillAnswer
+) -> Result<(), ParseError>
     ensures { (says_fill result (axes x.new y.new z.new) ≡ leaf_origins_numbered s.now n first (length x.old) (length y.old) (length z.old)) × KeptBy result (axes x.old y.old z.old) (axes x.new y.new z.new) }
 {
     origins_asked(s, Asked::ByNumber(n), b"", first, x, y, z)

@@ -1,4 +1,4 @@
--- The invariant: the origins laid down, with those to come, are the whole run. The loop ends because behind each leaf fewer pieces are to come.
+-- The invariant: the origins laid down, with those to come, are the whole run.
 use Prim.Native.Nat.{◌≤◌}
 use lib.ListN.{length}
 use Rattle.cursor.specs.Inner.{to_come}
@@ -10,10 +10,8 @@ use Rattle.origins.specs.Inner.{origin_in}
 use Rattle.origins.proofs.Laws.{Laying}
 use Rattle.origins.proofs.origins_run.Given as goal
 
-abbrev pub invariant-loop-at : goal.invariant-loop-at
-invariant-loop-at l =
-    (records_in l.s (to_come l.s l.c l.cursor).items ≤ most)
-    × Laying (leaves_from l.s l.c l.cursor) l.pass l.at (axes l.x l.y l.z) (from_leaves origin_in (leaves_from l.s l.c l.initial.cursor) l.initial.pass (length l.initial.x))
-
-abbrev pub decreases-loop-at : goal.decreases-loop-at
-decreases-loop-at l = length (to_come l.s l.c l.cursor).items
+abbrev pub invariant-loop-i : goal.invariant-loop-i
+invariant-loop-i l =
+    let c = l.fn.start.coding in
+    (records_in l.s (to_come l.s c l.cursor).items ≤ most)
+    × Laying (leaves_from l.s c l.cursor) l.pass l.i (axes l.x l.y l.z) (from_leaves origin_in (leaves_from l.s c l.initial.cursor) l.initial.pass (length l.initial.x))
