@@ -1,13 +1,13 @@
 -- A row and its columns.
 use mathlib.Core.Path.{◌≡◌, refl, ap, ◌∙◌}
-use mathlib.Core.List.{List, [], ◌∷◌, ◌++◌, map}
+use mathlib.Core.List.{List, [], ◌∷◌, ◌++◌, map, append-nil}
 use Prim.Native.Nat.{ℕ, zero, suc, ◌+◌, ◌-◌, ◌≤◌, ◌<◌}
 use native.Mathlib.Nat.{add-zero}
 use native.Mathlib.Numerals.{add-one}
 use native.Mathlib.Omega.{arith}
 use lib.IntN.{ℤ, pos}
-use lib.ListN.{length, get_or, set, take, drop, length-map}
-use lib.Seq.{sets, sets-eq, take_at}
+use lib.ListN.{length, get_or, set, drop, length-map, drop_of_length-le}
+use lib.Seq.{sets, sets-eq}
 use Rattle.tree.specs.Active.{Record}
 use Rattle.slots.specs.Slots.{Slots, slot_count, laid_from}
 use Rattle.walk.specs.Demand3.{rows}
@@ -41,24 +41,24 @@ unfolding rows
 rows-length t i zero = refl
 rows-length t i (suc n) = ap suc (rows-length t (suc i) n)
 
--- The first n slots of the columns are stored in the row, which was row₀: i of them are, and what is left to store comes to the whole.
-pub record Storing (t : Slots) (n : ℕ) (row₀ row : List Row) (i : ℕ) : Type 0 where
-  pub most : i ≤ n
-  pub all : sets row i (map row_of (rows t i (n - i))) ≡ sets row₀ 0 (map row_of (rows t 0 n))
+-- The first slots of the columns are stored in the row, which was row₀: i of them are, and what is left to store comes to the whole.
+pub record Storing (t : Slots) (row₀ row : List Row) (i : ℕ) : Type 0 where
+  pub all : sets row i (map row_of (rows t i (length row₀ - i))) ≡ sets row₀ 0 (map row_of (rows t 0 (length row₀)))
 
-module _ (t : Slots) (n : ℕ) (row₀ : List Row) where
-  pub stores : (row : List Row) (i : ℕ) {x y z : ℤ} → i < n → Storing t n row₀ row i → x ≡ get_or t.x i (pos 0) → y ≡ get_or t.y i (pos 0) → z ≡ get_or t.z i (pos 0) →
-      Storing t n row₀ (set row i (record { x = x; y = y; z = z; level = get_or t.level i 0; value = get_or t.value i 0 })) (i + 1)
+module _ (t : Slots) (row₀ : List Row) where
+  pub stores : (row : List Row) (i : ℕ) {x y z : ℤ} → i < length row₀ → Storing t row₀ row i → x ≡ get_or t.x i (pos 0) → y ≡ get_or t.y i (pos 0) → z ≡ get_or t.z i (pos 0) →
+      Storing t row₀ (set row i (record { x = x; y = y; z = z; level = get_or t.level i 0; value = get_or t.value i 0 })) (i + 1)
   unfolding rows
   stores row i h q a b c =
-      let e : n - i ≡ suc (n - suc i) = omega arith in
-      record { most = omega arith; all = rw (a, b, c, add-one) (rw e at q.all) }
+      let e : length row₀ - i ≡ suc (length row₀ - suc i) = omega arith in
+      record { all = rw (a, b, c, add-one) (rw e at q.all) }
 
-  pub stored : (row : List Row) (i : ℕ) → n ≤ i → n ≤ length row₀ → Storing t n row₀ row i → take n row ≡ map row_of (rows t 0 n)
+  pub stored : (row : List Row) (i : ℕ) → length row₀ ≤ i → Storing t row₀ row i → row ≡ map row_of (rows t 0 (length row₀))
   unfolding rows
-  stored row i h l q =
-      let rs = map row_of (rows t 0 n) in
-      let e : n - i ≡ 0 = omega arith in
-      let k : length rs ≡ n = length-map (rows t 0 n) row_of ∙ rows-length t 0 n in
+  stored row i h q =
+      let rs = map row_of (rows t 0 (length row₀)) in
+      let e : length row₀ - i ≡ 0 = omega arith in
+      let k : length rs ≡ length row₀ = length-map (rows t 0 (length row₀)) row_of ∙ rows-length t 0 (length row₀) in
       let f : row ≡ sets row₀ 0 rs = rw e at q.all in
-      rw (f, sets-eq rs row₀ 0 (omega arith)) (take_at rs (drop (0 + length rs) row₀) n k)
+      let d : drop (0 + length rs) row₀ ≡ [] = drop_of_length-le row₀ (omega arith) in
+      f ∙ sets-eq rs row₀ 0 (omega arith) ∙ rw (d, append-nil)

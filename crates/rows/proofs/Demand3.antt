@@ -6,7 +6,9 @@ use native.Mathlib.Omega.{arith}
 use lib.IntN.{pos}
 use lib.ListN.{length, take, drop, length-map, get_or-map}
 use lib.Seq.{drop-cons}
+use Rattle.std.proofs.Common.{Result, Ok, Err}
 use Rattle.fields.specs.Answer.{gives}
+use Rattle.fields.specs.declared.ParseError.{ParseError}
 use Rattle.archive.specs.declared.Asked.{Asked}
 use Rattle.tree.specs.Active.{Record}
 use Rattle.slots.specs.Slots.{Slots, laid_from}
@@ -17,8 +19,7 @@ use Rattle.place.specs.declared.Place.{Place}
 use Rattle.walk.specs.Walk.{Promise}
 use Rattle.walk.specs.Demand3.{rows, in_slots, handed_out, HandsBack, Calls, slots_lent}
 use Rattle.walk.proofs.Demand3.{demand3}
-use Rattle.walk.specs.declared.WalkAnswer.{WalkAnswer}
-use Rattle.walk.specs.declared.WalkAnswer.TheVariants.{Walked as HasWalked, Refused as WalkRefused}
+use Rattle.walk.specs.declared.Walked.{Walked}
 use Rattle.rows.specs.Rows.{row_of, columns, RowCall, in_columns, in_row, row_out, rows_lent, Demand3Rows}
 use Rattle.rows.specs.declared.Record.{Record as Row}
 use Rattle.rows.proofs.Columns.{columns-count}
@@ -45,12 +46,12 @@ rows_of row i (suc n) h =
 columns-long : (a b : List Row) (rs : List Record) → columns b ≡ laid_from (columns a) 0 rs → length b ≡ length a
 columns-long a b rs e = sym (length-map b (λ (r : Row). r.x)) ∙ ap (λ (t : Slots). length t.x) e ∙ (laid_same (columns a) 0 rs (same (columns a))).in-x ∙ length-map a (λ (r : Row). r.x)
 
-call_rows : (s : List ℕ) (p : Place) (a b : List Row) (r : WalkAnswer) → Promise s p (columns a) r (columns b) → map row_of (in_slots r (columns b)) ≡ in_row r b
-call_rows s p a b (HasWalked w) q =
+call_rows : (s : List ℕ) (p : Place) (a b : List Row) (r : Result Walked ParseError) → Promise s p (columns a) r (columns b) → map row_of (in_slots r (columns b)) ≡ in_row r b
+call_rows s p a b (Ok w) q =
     let d = q.some-records w refl in
     let l = columns-long a b d.0 d.3 in
     rows_of b 0 w.filled (omega (arith, d.2, columns-count a))
-call_rows s p a b (WalkRefused k) q = refl
+call_rows s p a b (Err x) q = refl
 
 -- what the calls hand out, as rows
 abbrev InRows : List RowCall → Type 0
@@ -66,9 +67,9 @@ unfolding flat_map
 calls-rows s p [] q = refl
 calls-rows s p (c ∷ cs) q = rw (map-append, call_rows s p c.before c.after c.answer q.0, go c.answer (λ p. calls-rows s p cs) q.1)
   where
-    go : (r : WalkAnswer) → ((p : Place) → Calls s p (map in_columns cs) → InRows cs) → HandsBack r (λ p. Calls s p (map in_columns cs)) (map in_columns cs ≡ []) → InRows cs
-    go (HasWalked w) later q = later w.place q
-    go (WalkRefused k) later e = none_left cs e
+    go : (r : Result Walked ParseError) → ((p : Place) → Calls s p (map in_columns cs) → InRows cs) → HandsBack r (λ p. Calls s p (map in_columns cs)) (map in_columns cs ≡ []) → InRows cs
+    go (Ok w) later q = later w.place q
+    go (Err x) later e = none_left cs e
 
 lent_rows : (cs : List RowCall) → slots_lent (map in_columns cs) ≡ rows_lent cs
 unfolding slots_lent rows_lent

@@ -1,30 +1,30 @@
 -- Several calls of the core, one after the other, say what one call says.
 use mathlib.Core.Path.{◌≡◌, refl, sym, ap, ◌∙◌}
 use mathlib.Core.List.{List, [], ◌++◌, append_assoc, append-nil}
-use Prim.Native.Nat.{ℕ, zero, suc, ◌+◌, ◌-◌, ◌≤◌, ◌<◌, min}
-use native.Mathlib.Nat.{zero-add, add_assoc, sub-zero}
+use Prim.Native.Nat.{ℕ, zero, suc, ◌+◌, ◌-◌, ◌≤◌, ◌<◌}
+use native.Mathlib.Nat.{zero-add, add-zero, add_assoc, sub-zero}
 use native.Mathlib.Omega.{arith}
 use lib.ListN.{length, take, drop, length-take, length-drop, length-append}
 use lib.Seq.{take-add, drop-drop}
 use borrow.Author.Tests.{ne_eqb}
 use Rattle.fields.specs.Parse.{when}
+use Rattle.std.proofs.Common.{Result, Ok, Err}
 use Rattle.fields.specs.Answer.{gives}
+use Rattle.fields.specs.Says.{number}
+use Rattle.fields.specs.declared.ParseError.{ParseError}
 use Rattle.archive.specs.declared.Asked.{Asked}
 use Rattle.fields.proofs.Answers.{gives_same}
 use Rattle.tree.specs.Active.{Record}
-use Rattle.slots.specs.Slots.{Slots, slot_count, laid_from}
+use Rattle.slots.specs.Slots.{Slots, slots_of, slot_count, laid_from}
 use Rattle.grid.specs.Grid.{Grid, grid, active_of, place_after}
 use Rattle.place.specs.declared.Place.{Place}
 use Rattle.walk.specs.Walk.{next_records, walked_to, LeftBehind, Promise}
-use Rattle.walk.specs.Demand3.{in_slots}
+use Rattle.walk.specs.Demand3.{rows, in_slots}
 use Rattle.walk.proofs.Demand3.{take-there, rows-laid}
-use Rattle.walk.proofs.Laws.{refuses-gives}
+use Rattle.walk.proofs.Laws.{refuses-gives, does-nothing, keeps}
 use Rattle.walk.proofs.Reached.{length-nil}
 use Rattle.walk.specs.declared.Walked.{Walked}
-use Rattle.walk.specs.declared.WalkAnswer.{WalkAnswer}
-use Rattle.walk.specs.declared.WalkAnswer.TheVariants.{Walked as HasWalked, Refused as WalkRefused}
-use Rattle.rows.specs.Inner.{Says, counted, together, Portioned}
-use Rattle.rows.specs.declared.Portion.{Portion}
+use Rattle.rows.specs.Inner.{Says, counted, together}
 use Rattle.rows.proofs.Columns.{rows-length}
 
 -- Taking k first, and then what is still wanted from the rest, is taking all at once.
@@ -48,8 +48,8 @@ most : {A : Type 0} (k : ℕ) (l : List A) → 0 + length (take k l) ≤ k
 most k l = omega (arith, length-take k l)
 
 -- ---- What a call of the core says, and back.
-pub says_of : (s : List ℕ) (p : Place) (t : Slots) (r : WalkAnswer) (t' : Slots) → Promise s p t r t' → Says s p (slot_count t) r (in_slots r t')
-says_of s p t (HasWalked w) t' q =
+pub says_of : (s : List ℕ) (p : Place) (t : Slots) (r : Result Walked ParseError) (t' : Slots) → Promise s p t r t' → Says s p (slot_count t) r (in_slots r t')
+says_of s p t (Ok w) t' q =
     record {
       reached = λ asked name g m e l f.
           let next = next_records s g m (slot_count t) in
@@ -63,7 +63,7 @@ says_of s p t (HasWalked w) t' q =
       no-slots = q.no-slots;
       past_end = q.past_end;
     }
-says_of s p t (WalkRefused k) t' q =
+says_of s p t (Err x) t' q =
     record {
       reached = λ asked name g m e l f. absurd (refuses-gives (q.reached asked name g m e l f).0);
       some-records = λ v e. absurd (refuses-gives e);
@@ -73,7 +73,7 @@ says_of s p t (WalkRefused k) t' q =
       past_end = q.past_end;
     }
 
-pub promise-of : {s : List ℕ} {p : Place} {t : Slots} {r : WalkAnswer} {rs : List Record} {t' : Slots} → Says s p (slot_count t) r rs → t' ≡ laid_from t 0 rs → Promise s p t r t'
+pub promise-of : {s : List ℕ} {p : Place} {t : Slots} {r : Result Walked ParseError} {rs : List Record} {t' : Slots} → Says s p (slot_count t) r rs → t' ≡ laid_from t 0 rs → Promise s p t r t'
 unfolding laid_from
 promise-of {t = t} {rs = rs} q e =
     record {
@@ -86,9 +86,9 @@ promise-of {t = t} {rs = rs} q e =
     }
 
 -- no more records than slots
-pub says-few : (s : List ℕ) (p : Place) (k : ℕ) (r : WalkAnswer) (rs : List Record) → Says s p k r rs → length rs ≤ k
-says-few s p k (HasWalked w) rs q = let d = q.some-records w refl in omega (arith, d.0, d.1)
-says-few s p k (WalkRefused n) rs q = rw (q.refused n refl).1 (omega arith)
+pub says-few : (s : List ℕ) (p : Place) (k : ℕ) (r : Result Walked ParseError) (rs : List Record) → Says s p k r rs → length rs ≤ k
+says-few s p k (Ok w) rs q = let d = q.some-records w refl in omega (arith, d.0, d.1)
+says-few s p k (Err x) rs q = rw (q.refused (number x) refl).1 (omega arith)
 
 -- ---- A second call goes on from where the first one stopped.
 -- what is left behind an answer, for another number of slots; and behind two calls, of which the first handed out records
@@ -111,14 +111,14 @@ module _ (s : List ℕ) (g : Grid) (m k n : ℕ) (h : k ≤ n) where
   walked-joined : counted (walked_to s g m (length first)) (walked_to s g (m + length first) (length second)) ≡ walked_to s g m (length (next_records s g m n))
   walked-joined = rw (← next-joined, length-append, add_assoc)
 
-module _ {s : List ℕ} {p : Place} {k n : ℕ} {v : Walked} {rs : List Record} (q : Says s p k (HasWalked v) rs) (some-filled : 0 < v.filled) (h : k ≤ n) where
+module _ {s : List ℕ} {p : Place} {k n : ℕ} {v : Walked} {rs : List Record} (q : Says s p k (Ok v) rs) (some-filled : 0 < v.filled) (h : k ≤ n) where
   few : v.filled ≤ k
   few = (q.some-records v refl).1
 
   -- an answer with records: what is left to show of it
   walks : (w : Walked) (all : List Record) → length all ≡ w.filled → w.filled ≤ n → LeftBehind p n w →
       ((asked : Asked) (name : List ℕ) (g : Grid) (m : ℕ) → gives g ≡ grid s asked name → m ≤ length (active_of s g) → p ≡ place_after s g m →
-      (gives w ≡ gives (walked_to s g m (length (next_records s g m n)))) × (all ≡ next_records s g m n)) → Says s p n (HasWalked w) all
+      (gives w ≡ gives (walked_to s g m (length (next_records s g m n)))) × (all ≡ next_records s g m n)) → Says s p n (Ok w) all
   walks w all l f b d =
       record {
         reached = d;
@@ -129,9 +129,9 @@ module _ {s : List ℕ} {p : Place} {k n : ℕ} {v : Walked} {rs : List Record} 
         past_end = λ a b c. absurd (refuses-gives (sym (q.past_end (omega (arith, few)) b c)));
       }
 
-  pub join : (a : WalkAnswer) (more : List Record) → Says s v.place (n - v.filled) a more → Says s p n (together v a) (rs ++ more)
+  pub join : (a : Result Walked ParseError) (more : List Record) → Says s v.place (n - v.filled) a more → Says s p n (together v a) (rs ++ more)
   unfolding when
-  join (HasWalked u) more b =
+  join (Ok u) more b =
       let l = (q.some-records v refl).0 in
       let c = b.some-records u refl in
       let behind : LeftBehind p n (counted v u) = left-joined (q.left_behind v refl) (b.left_behind u refl) some-filled in
@@ -141,9 +141,9 @@ module _ {s : List ℕ} {p : Place} {k n : ℕ} {v : Walked} {rs : List Record} 
       let x : v ≡ walked_to s g m (length first) = gives_same d.0 in
       let y = (rw x at b).reached asked name g (m + length first) e (omega (arith, length-take k (drop m (active_of s g)), length-drop m (active_of s g))) refl in
       (ap gives (rw (x, gives_same y.0) (walked-joined s g m k n h)), rw (d.1, y.1) (next-joined s g m k n h)))
-  join (WalkRefused j) more b =
+  join (Err x) more b =
       let l = (q.some-records v refl).0 in
-      let e : more ≡ [] = (b.refused j refl).1 in
+      let e : more ≡ [] = (b.refused (number x) refl).1 in
       rw (ne_eqb v.filled 0 (λ z. omega arith), e, append-nil) (walks v rs l (omega (arith, few)) (left-for (q.left_behind v refl) (λ i j. some-filled)) (λ asked name g m e i f.
       let d = q.reached asked name g m e i f in
       let first = next_records s g m k in
@@ -151,7 +151,7 @@ module _ {s : List ℕ} {p : Place} {k n : ℕ} {v : Walked} {rs : List Record} 
       absurd (refuses-gives ((rw x at b).reached asked name g (m + length first) e (omega (arith, length-take k (drop m (active_of s g)), length-drop m (active_of s g))) refl).0)))
 
 -- A call that found nothing for k slots finds nothing for more of them.
-pub widen : (s : List ℕ) (p : Place) (k n : ℕ) (r : WalkAnswer) (rs : List Record) → Says s p k r rs → length rs ≡ 0 → k ≤ n → (k ≡ 0 → n ≡ 0) → Says s p n r rs
+pub widen : (s : List ℕ) (p : Place) (k n : ℕ) (r : Result Walked ParseError) (rs : List Record) → Says s p k r rs → length rs ≡ 0 → k ≤ n → (k ≡ 0 → n ≡ 0) → Says s p n r rs
 widen s p k n r rs q z l h =
     record {
       reached = λ asked name g m e i f.
@@ -166,55 +166,50 @@ widen s p k n r rs q z l h =
 
 -- ---- The call so far: whatever the next call says, for the slots that are left, makes what the whole call says.
 abbrev pub Whole : List ℕ → Place → ℕ → Walked → List Record → Type 0
-Whole s p n w rs = (a : WalkAnswer) (more : List Record) → Says s w.place (n - w.filled) a more → Says s p n (together w a) (rs ++ more)
+Whole s p n w rs = (a : Result Walked ParseError) (more : List Record) → Says s w.place (n - w.filled) a more → Says s p n (together w a) (rs ++ more)
 
 -- before the first call
 abbrev pub start : Place → Walked
 start p = record { place = p; filled = 0; left = p.left }
 
-together-start : (p : Place) (a : WalkAnswer) → together (start p) a ≡ a
+together-start : (p : Place) (a : Result Walked ParseError) → together (start p) a ≡ a
 unfolding when
-together-start p (HasWalked v) = rw zero-add
-together-start p (WalkRefused k) = refl
+together-start p (Ok v) = rw zero-add
+together-start p (Err x) = refl
 
-together-more : (w v : Walked) (a : WalkAnswer) → 0 < v.filled → together w (together v a) ≡ together (counted w v) a
+together-more : (w v : Walked) (a : Result Walked ParseError) → 0 < v.filled → together w (together v a) ≡ together (counted w v) a
 unfolding when
-together-more w v (HasWalked u) h = rw add_assoc
-together-more w v (WalkRefused k) h = rw (ne_eqb v.filled 0 (λ e. omega arith), ne_eqb (w.filled + v.filled) 0 (λ e. omega arith))
+together-more w v (Ok u) h = rw add_assoc
+together-more w v (Err x) h = rw (ne_eqb v.filled 0 (λ e. omega arith), ne_eqb (w.filled + v.filled) 0 (λ e. omega arith))
 
 pub whole-start : (s : List ℕ) (p : Place) (n : ℕ) → Whole s p n (start p) []
 whole-start s p n a more q = rw (together-start p a) (rw sub-zero at q)
 
--- What holds of a portion of n slots, with all records up to its end: if it is empty, the call is over; else the next one goes on behind it.
-pub record Goes (s : List ℕ) (p : Place) (n : ℕ) (r : Portion) (rs : List Record) : Type 0 where
-  pub over : r.count ≡ 0 → Says s p n r.answer rs
-  pub filled : 0 < r.count → r.past.filled ≡ length rs
-  pub whole : 0 < r.count → Whole s p n r.past rs
+-- One more call, for k of the slots that are left, and at least one.
+module _ (s : List ℕ) (p : Place) (n : ℕ) (w : Walked) (rs : List Record) (whole : Whole s p n w rs) {k : ℕ} (some : 0 < k) (few : k ≤ n - w.filled) where
+  -- it hands out nothing: the walk is over
+  pub over : (a : Result Walked ParseError) (more : List Record) → Says s w.place k a more → length more ≡ 0 → Says s p n (together w a) rs
+  over a more q z =
+      let e : more ≡ [] = length-nil more z in
+      let b : Says s w.place (n - w.filled) a more = widen s w.place k (n - w.filled) a more q z few (λ h. omega arith) in
+      rw (← append-nil rs) (rw e at (whole a more b))
 
-module _ (s : List ℕ) (p : Place) (n : ℕ) (w : Walked) (rs : List Record) (e : w.filled ≡ length rs) (whole : Whole s p n w rs) (r : Portion) (q : Portioned s w n r) where
-  abbrev size : ℕ
-  size = min 64 (n - w.filled)
+  -- it hands out records: the next call goes on behind them
+  pub onward : {v : Walked} {more : List Record} → Says s w.place k (Ok v) more → 0 < v.filled → Whole s p n (counted w v) (rs ++ more)
+  onward {v} {more} q f a later b =
+      let j : n - (w.filled + v.filled) ≡ n - w.filled - v.filled = omega arith in
+      rw (append_assoc, ← together-more w v a f) (whole (together v a) (more ++ later) (join q f few a later (rw j at b)))
 
-  goes_on : (a : WalkAnswer) → q.call ≡ a → 0 < r.count → (r.past.filled ≡ length (rs ++ q.records)) × Whole s p n r.past (rs ++ q.records)
-  goes_on (HasWalked v) d h =
-      let y = rw d at q.says in
-      let l = (y.some-records v refl).0 in
-      let f : 0 < v.filled = omega (arith, q.count) in
-      rw (q.onward v d) (
-        rw length-append (omega arith),
-        λ a more b.
-            let k : n - (w.filled + v.filled) ≡ n - w.filled - v.filled = omega arith in
-            rw (append_assoc, ← together-more w v a f) (whole (together v a) (q.records ++ more) (join y f (omega arith) a more (rw k at b))),
-      )
-  goes_on (WalkRefused k) d h =
-      let z : length q.records ≡ 0 = ap length ((rw d at q.says).refused k refl).1 in
-      absurd (omega (arith, q.count))
+-- Where no slots are left the walk is over too.
+abbrev no-slots : Slots
+no-slots = slots_of [] [] [] [] []
 
-  pub goes : Goes s p n r (rs ++ q.records)
-  goes =
-      record {
-        over = λ z. rw q.answer (whole q.call q.records
-            (widen s w.place size (n - w.filled) q.call q.records q.says (omega (arith, q.count)) (omega arith) (λ h. omega arith)));
-        filled = λ h. (goes_on q.call refl h).0;
-        whole = λ h. (goes_on q.call refl h).1;
-      }
+says-nothing : (s : List ℕ) (p : Place) → Says s p 0 (Ok (start p)) []
+unfolding rows
+says-nothing s p = says_of s p no-slots (Ok (start p)) no-slots (keeps s p no-slots (does-nothing s p no-slots (omega arith) refl))
+
+pub filled-up : (s : List ℕ) (p : Place) (n : ℕ) (w : Walked) (rs : List Record) → Whole s p n w rs → n ≤ w.filled → w.left ≡ w.place.left → Says s p n (Ok w) rs
+filled-up s p n w rs whole h e =
+    let z : n - w.filled ≡ 0 = omega arith in
+    let same : counted w (start w.place) ≡ w = λ i. record { place = w.place; filled = add-zero w.filled i; left = sym e i } in
+    rw (← append-nil rs) (rw same at (whole (Ok (start w.place)) [] (rw z (says-nothing s w.place))))

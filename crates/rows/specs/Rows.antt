@@ -1,14 +1,14 @@
 -- Section 7: a row of record slots, as a slice of structs; and demand 3 of calls over rows. The theorem is `demand3-rows` in proofs/Demand3.antt.
-use Rattle.std.specs.Prelude.{ℕ, ◌+◌, min, ◌≡◌, length, take}
+use Rattle.std.specs.Prelude.{ℕ, Result, Ok, Err, ◌+◌, min, ◌≡◌, length, take}
 use mathlib.Core.List.{List, [], ◌∷◌, map, flat_map}
+use Rattle.fields.specs.declared.ParseError.{ParseError}
 use Rattle.archive.specs.declared.Asked.{Asked}
 use Rattle.tree.specs.Active.{Record}
 use Rattle.slots.specs.Slots.{Slots, slots_of}
 use Rattle.grid.specs.Grid.{active_of}
 use Rattle.grid.specs.declared.OpenedGrid.{OpenedGrid}
 use Rattle.walk.specs.Demand3.{Call, Demand3}
-use Rattle.walk.specs.declared.WalkAnswer.{WalkAnswer}
-use Rattle.walk.specs.declared.WalkAnswer.TheVariants.{Walked as HasWalked, Refused as WalkRefused}
+use Rattle.walk.specs.declared.Walked.{Walked}
 use Rattle.rows.specs.declared.Record.{Record as Row}
 
 -- a record as a row has it
@@ -22,16 +22,16 @@ columns row = slots_of (map (λ r. r.x) row) (map (λ r. r.y) row) (map (λ r. r
 -- A walk call over a row, as it ended; and the same as a call over five slices.
 pub record RowCall : Type 0 where
   pub before : List Row
-  pub answer : WalkAnswer
+  pub answer : Result Walked ParseError
   pub after : List Row
 
 abbrev pub in_columns : RowCall → Call
 in_columns c = record { before = columns c.before; answer = c.answer; after = columns c.after }
 
 -- what a call hands out: its filled slots as it ends; none where it is refused
-abbrev pub in_row : WalkAnswer → List Row → List Row
-in_row (HasWalked w) row = take w.filled row
-in_row (WalkRefused k) row = []
+abbrev pub in_row : Result Walked ParseError → List Row → List Row
+in_row (Ok w) row = take w.filled row
+in_row (Err e) row = []
 
 abbrev pub row_out : RowCall → List Row
 row_out c = in_row c.answer c.after

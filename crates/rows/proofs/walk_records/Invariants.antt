@@ -1,10 +1,11 @@
--- What is left to store from here comes to the whole; each turn fills one slot more.
+-- The first slots are filled. Each turn but the last fills one more at least.
 use Rattle.std.proofs.Common.{◌-◌, length}
-use Rattle.rows.proofs.Filling.{Filling}
+use Rattle.slots.specs.Slots.{slots_of}
+use Rattle.rows.proofs.Filling.{Filling, Scratch}
 use Rattle.rows.proofs.walk_records.Given as goal
 
-abbrev pub invariant-loop-j : goal.invariant-loop-j
-invariant-loop-j l = Filling l.fn.s l.fn.p l.fn.slots l.portion l.i l.j l.slots
+abbrev pub invariant-loop-past : goal.invariant-loop-past
+invariant-loop-past l = record { filling : Filling l.fn.s l.fn.p l.fn.slots l.past l.slots; scratch : Scratch (slots_of l.x l.y l.z l.level l.value) }
 
-abbrev pub decreases-loop-j : goal.decreases-loop-j
-decreases-loop-j l = length l.fn.slots - l.i
+abbrev pub decreases-loop-past : goal.decreases-loop-past
+decreases-loop-past l = length l.initial.slots - l.past.filled
