@@ -1,22 +1,16 @@
--- Laws of what a call leaves, by which the calls' proofs go.
-use mathlib.Core.Path.{◌≡◌, refl, ap, ◌∙◌}
+-- What a call leaves, by which the calls' proofs go.
+use mathlib.Core.Path.{◌≡◌, ap, ◌∙◌}
 use Prim.Native.Nat.{ℕ}
-use Rattle.fields.specs.Answer.{Answer, gives, refuses}
-use Rattle.fields.proofs.Laws.{told}
+use Rattle.std.proofs.Common.{Result, Ok, Err, MatchResult}
+use Rattle.fields.specs.Answer.{Answer}
+use Rattle.fields.specs.Says.{number, says_answer}
+use Rattle.fields.specs.declared.ParseError.{ParseError}
 use Rattle.outward.specs.Outward.{laid}
 
--- a call's answer r, which says m, and of which it is known which answer v it is
-pub laid_by :
-    {E A : Type 0} (says : E → Answer A) {B : Type 0} {m : Answer A} (words : A → B) (lent : B) {x : ℕ × B} {r v : E} → says r ≡ m → r ≡ v → x ≡ laid (says v) words lent →
-    x ≡ laid m words lent
-laid_by says words lent h e k = k ∙ ap (λ (p : Answer _). laid p words lent) (told says e h)
-
-pub laid_on : {A B : Type 0} (words : A → B) (lent : B) {w : B} {a : A} → w ≡ words a → (0, w) ≡ laid (gives a) words lent
+-- a call's answer r, which says m, and what is returned for it and left of what was lent
+pub laid_as :
+    {A B : Type 0} {m : Answer A} (words : A → B) (lent : B) (r : Result A ParseError) {k : ℕ} {left : B} → says_answer r ≡ m →
+    MatchResult r (λ a. (k ≡ 0) × (left ≡ words a)) (λ e. (k ≡ number e) × (left ≡ lent)) → (k, left) ≡ laid m words lent
 unfolding laid
-laid_on words lent e = ap (λ (w : _). (0, w)) e
-
-pub laid_stop : {A B : Type 0} (words : A → B) (lent : B) {k : ℕ} → (k, lent) ≡ laid (refuses k) words lent
-unfolding laid
-laid_stop words lent = refl
-
-pub ruleset laying = (laid_on, laid_stop)
+laid_as words lent (Ok a) e h = (λ i. (h.0 i, h.1 i)) ∙ ap (λ (m : Answer _). laid m words lent) e
+laid_as words lent (Err d) e h = (λ i. (h.0 i, h.1 i)) ∙ ap (λ (m : Answer _). laid m words lent) e

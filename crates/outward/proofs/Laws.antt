@@ -6,12 +6,7 @@ use native.Mathlib.Numerals.{add-one}
 use native.Mathlib.Omega.{arith}
 use lib.ListN.{length, take, set}
 use lib.Seq.{take_all, take-suc-set}
-use Rattle.metadata.specs.declared.MetadataValue.{MetadataValue}
-use Rattle.outward.specs.Outward.{entry_words, table}
-
--- an entry's words, once it is known which value it is
-pub entry-by : {v u : MetadataValue} {w : List ℕ} → v ≡ u → w ≡ entry_words u → w ≡ entry_words v
-entry-by e h = rw e h
+use Rattle.outward.specs.Outward.{table}
 
 -- the 26 words behind the first six: one more is written, or all are
 module _ (f : ℕ → ℕ) (head out : List ℕ) (i : ℕ) where

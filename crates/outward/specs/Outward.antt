@@ -1,12 +1,10 @@
 -- What an answer looks like as plain words, and what a call from another language leaves.
-use Rattle.std.specs.Prelude.{ℕ, zero, suc, ◌+◌, ◌-◌, ◌*◌, List, [], ◌∷◌, ◌++◌, Bool, true, false, ltb}
+use Rattle.std.specs.Prelude.{ℕ, zero, suc, ◌+◌, ◌-◌, ◌*◌, List, [], ◌∷◌, ◌++◌, Bool, true, false, Option, None, Some, ltb}
 use Rattle.fields.specs.Le.{u64_at}
 use Rattle.fields.specs.Parse.{when}
 use Rattle.fields.specs.Answer.{Answer, gives, refuses}
 use Rattle.header.specs.declared.ArchiveHeader.{ArchiveHeader}
 use Rattle.descriptor.specs.declared.GridDescriptor.{GridDescriptor}
-use Rattle.descriptor.specs.declared.HalfEntry.{HalfEntry}
-use Rattle.descriptor.specs.declared.HalfEntry.TheVariants as Half
 use Rattle.metadata.specs.declared.MetadataValue.{MetadataValue}
 use Rattle.metadata.specs.declared.MetadataValue.TheVariants as Value
 use Rattle.transform.specs.declared.Map.{Map}
@@ -31,10 +29,10 @@ header_words h =
     ∷ h.meta_pos ∷ h.grid_count ∷ []
 
 -- section 2: what the entry that tells of halves says, 2 or 1 for true and false, 0 where it says nothing
-abbrev pub half_number : HalfEntry → ℕ
-half_number (Half.Says true) = 2
-half_number (Half.Says false) = 1
-half_number Half.Nothing = 0
+abbrev pub half_number : Option Bool → ℕ
+half_number (Some true) = 2
+half_number (Some false) = 1
+half_number None = 0
 
 -- section 2: name, type and parent by start and length, the three positions, the flags, the half entry, where metadata and tree start; section 5: how
 -- many bytes a stored value takes; the last two are 0, room for what may be told later
