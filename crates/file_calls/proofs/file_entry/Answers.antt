@@ -1,10 +1,7 @@
 -- The answer's words are laid into what was lent, or nothing is.
-use Rattle.answers.specs.Answers.{says_entry_answer}
-use Rattle.outward.proofs.Laid.{laying, laid_by}
+use Rattle.outward.specs.Outward.{entry_words}
+use Rattle.outward.proofs.Laid.{laid_as}
 use Rattle.file_calls.proofs.file_entry.Goals as goal
 
-pub returns-in-Refused : goal.returns-in-Refused
-returns-in-Refused c = search (laying, laid_by says_entry_answer)
-
-pub returns-in-Value : goal.returns-in-Value
-returns-in-Value c = search (laying, laid_by says_entry_answer)
+pub returns : goal.returns
+returns c = laid_as entry_words _ _ c.file_entry.ensures c.lay.ensures
