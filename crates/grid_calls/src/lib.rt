@@ -3,41 +3,48 @@
 #![tactic(auto)]
 
 ghost use Rattle.std.specs.Prelude.{◌≡◌};
+ghost use Rattle.std.specs.Result.{ForOk};
+ghost use Rattle.fields.specs.Says.{says_answer};
 ghost use Rattle.grid.specs.Grid.{open_grid_named, open_grid_numbered};
+ghost use Rattle.outward.specs.Inner.{DoublesHeld};
 ghost use Rattle.slots.specs.Slots.{slots_of};
 ghost use Rattle.grid_calls.specs.Calls.{OpenCall, WalkCall};
 
-use grid::GridAnswer;
-use walk::WalkAnswer;
+use fields::ParseError;
+use grid::OpenedGrid;
+
+// Lays the words of an opened grid, and of its fresh place, into what was lent; or hands the refusal on.
+fn lay_grid(
+    s: &[u8],
+    answer: Result<OpenedGrid, ParseError>,
+    out: &mut [u64; 32],
+    place: &mut [u64; 40],
+) -> u32
+    requires { ForOk answer (DoublesHeld s.now) }
+    ensures { OpenCall s.now (says_answer answer) out.old place.old result out.new place.new }
+{
+    match answer {
+        Ok(g) => {
+            *place = words::words_of(g.place);
+            *out = outward::opened_words(s, g);
+            0
+        }
+        Err(e) => u32::from(e),
+    }
+}
 
 // Opens the grid of this name.
 pub fn open_grid_named(s: &[u8], name: &[u8], out: &mut [u64; 32], place: &mut [u64; 40]) -> u32
     ensures { OpenCall s.now (open_grid_named s.now name.now) out.old place.old result out.new place.new }
 {
-    match grid::open_grid_named(s, name) {
-        GridAnswer::Refused(k) => k,
-        GridAnswer::Grid(g) => {
-            let fresh = g.place;
-            *out = outward::opened_words(s, g);
-            *place = words::words_of(fresh);
-            0
-        }
-    }
+    lay_grid(s, grid::open_grid_named(s, name), out, place)
 }
 
 // Opens the grid with this number, from 0.
 pub fn open_grid_numbered(s: &[u8], n: u32, out: &mut [u64; 32], place: &mut [u64; 40]) -> u32
     ensures { OpenCall s.now (open_grid_numbered s.now n) out.old place.old result out.new place.new }
 {
-    match grid::open_grid_numbered(s, n) {
-        GridAnswer::Refused(check) => check,
-        GridAnswer::Grid(g) => {
-            let fresh = g.place;
-            *out = outward::opened_words(s, g);
-            *place = words::words_of(fresh);
-            0
-        }
-    }
+    lay_grid(s, grid::open_grid_numbered(s, n), out, place)
 }
 
 // The walk call: the records that follow a place, into lent slots. Words of another layout are no place of these bytes.
@@ -53,17 +60,15 @@ pub fn walk(
 ) -> u32
     ensures { WalkCall s.now place.old counts.old (slots_of x.old y.old z.old level.old value.old) result place.new counts.new (slots_of x.new y.new z.new level.new value.new) }
 {
-    let kept = *place;
-    if !words::has_layout(kept) {
-        return 22;
+    if !words::has_layout(*place) {
+        return u32::from(ParseError::ForeignPlace);
     }
-    match walk::walk(s, words::place_of(kept), x, y, z, level, value) {
-        WalkAnswer::Refused(k) => k,
-        WalkAnswer::Walked(w) => {
-            let next = w.place;
-            *place = words::words_of(next);
+    match walk::walk(s, words::place_of(*place), x, y, z, level, value) {
+        Ok(w) => {
+            *place = words::words_of(w.place);
             *counts = [w.filled as u64, w.left];
             0
         }
+        Err(e) => u32::from(e),
     }
 }

@@ -1,18 +1,13 @@
--- The words of the opened grid and of its place are laid into what was lent, or nothing is.
+-- The transform's doubles of a grid that was opened lie in the file.
 use mathlib.Core.List.{[]}
 use Rattle.archive.specs.declared.Asked.TheVariants as A
 use Rattle.fields.proofs.Laws.{told}
-use Rattle.grid.specs.Answers.{says_grid_answer}
+use Rattle.fields.specs.Says.{says_answer}
 use Rattle.outward.proofs.Doubles.{opened-held}
-use Rattle.grid_calls.proofs.Laws.{open-refused, open-gave}
 use Rattle.grid_calls.proofs.open_grid_numbered.Goals as goal
 
-pub opened_words-requires : goal.opened_words-requires
-opened_words-requires c =
-    opened-held c.args.s.now (A.ByNumber c.args.n) [] _ (told says_grid_answer c.in-Grid.is c.open_grid_numbered.ensures)
+pub lay_grid-requires : goal.lay_grid-requires
+lay_grid-requires c g e = opened-held c.args.s.now (A.ByNumber c.args.n) [] g (told says_answer e c.open_grid_numbered.ensures)
 
-pub returns-in-Refused : goal.returns-in-Refused
-returns-in-Refused c = open-refused _ _ c.open_grid_numbered.ensures c.in-Refused.is
-
-pub returns-in-Grid : goal.returns-in-Grid
-returns-in-Grid c = open-gave _ _ c.open_grid_numbered.ensures c.in-Grid.is c.opened_words.ensures c.words_of.ensures
+pub returns : goal.returns
+returns c = rw c.open_grid_numbered.ensures at c.lay_grid.ensures
