@@ -1,9 +1,6 @@
 -- The answer is laid out as a fill's is.
-use Rattle.leaf_calls.proofs.Laws.{fill-refused, fill-filled}
+use Rattle.leaf_calls.proofs.Laws.{filled}
 use Rattle.leaf_calls.proofs.leaf_origins_named.Goals as goal
 
-pub returns-in-Refused : goal.returns-in-Refused
-returns-in-Refused c = fill-refused _ _ c.origins_named.ensures c.in-Refused.is
-
-pub returns-in-Filled : goal.returns-in-Filled
-returns-in-Filled c = fill-filled _ _ c.origins_named.ensures c.in-Filled.is
+pub returns : goal.returns
+returns c = filled _ _ _ c.origins_named.ensures c.returned.ensures
