@@ -6,6 +6,7 @@ use mathlib.Core.List.{List, [], ◌∷◌, ◌++◌, map, flat_map}
 use Prim.Native.Nat.{ℕ, zero, suc, ◌+◌, ◌*◌, ◌≤◌, ◌<◌}
 use native.Mathlib.Omega.{arith}
 use lib.ListN.{length}
+use Rattle.std.specs.Prelude.{None}
 use Rattle.fields.specs.Le.{byte_at, u32_at}
 use Rattle.fields.specs.Parse.{Parse, got, then, when, check, many}
 use Rattle.fields.specs.Fields.{same_bytes, ascii}
@@ -21,7 +22,6 @@ use Rattle.values.specs.Values.{is_selected, inactive_value, place_value, values
 use Rattle.forms.specs.declared.Coding.{Coding}
 use Rattle.forms.specs.declared.Stored.{Stored}
 use Rattle.forms.specs.declared.Stored.TheVariants.{Every, Active, Childless}
-use Rattle.forms.specs.declared.Selection.TheVariants.{Nothing}
 use Rattle.runs.specs.declared.Values.{Values}
 use Rattle.nodes.specs.Nodes.{node_field, old_field, block_field}
 use Rattle.nodes.specs.declared.NodeHeader.{NodeHeader}
@@ -36,7 +36,6 @@ use Rattle.tree.specs.Inner.{kept}
 use Rattle.metadata.specs.Metadata.{latest}
 use Rattle.header.specs.declared.ArchiveHeader.{ArchiveHeader}
 use Rattle.descriptor.specs.declared.GridDescriptor.{GridDescriptor}
-use Rattle.descriptor.specs.declared.HalfEntry.TheVariants as Half
 use Rattle.descriptor.specs.declared.TreeKind.TheVariants as Kind
 use Rattle.fields.specs.Answer.{gives}
 use Rattle.archive.specs.Archive.{present, File, file, is_asked, file_asked}
@@ -56,7 +55,7 @@ coding = coded 224 2 4
 
 -- a run that starts at a position: only active places are stored, and the others are zero
 abbrev pub run : ℕ → Values
-run at = record { stored = Active; inactives = record { first = 0; second = 0; selection = Nothing }; start = at }
+run at = record { stored = Active; inactives = record { first = 0; second = 0; selection = None }; start = at }
 
 -- a node with masks of n bytes at a position
 abbrev pub node : ℕ → ℕ → NodeHeader
@@ -219,7 +218,7 @@ descriptor_of block end = record {
   end_pos = end;
   compression = 2;
   kind = Kind.Float;
-  half = Half.Nothing;
+  half = None;
   meta_pos = 122;
   tree_pos = 126;
 }

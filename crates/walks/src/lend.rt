@@ -2,16 +2,17 @@
 ghost use Rattle.std.specs.Prelude.{◌≤◌};
 
 use asking::{series, show};
+use fields::ParseError;
 use place::Place;
 use std::io::{self, Write};
-use walk::{WalkAnswer, Walked};
+use walk::Walked;
 
-// What a call did: the place that it handed back, its refusal or 0, the number filled and the number left, whether all other slots are as they were,
-// and the sum with its records.
+// What a call did: the place that it handed back, its refusal, the number filled and the number left, whether all other slots are as they were, and the
+// sum with its records.
 #[derive(Clone, Copy)]
 pub struct Called {
     pub place: Place,
-    pub refusal: u32,
+    pub refusal: Option<ParseError>,
     pub filled: u64,
     pub left: u64,
     pub kept: bool,
@@ -20,7 +21,7 @@ pub struct Called {
 
 // A coordinate from 0 on.
 fn lifted(v: i32) -> u64 {
-    (v as i64 + 2147483648) as u64
+    (i64::from(v) + 2147483648).cast_unsigned()
 }
 
 fn add_record(sum: u64, x: i32, y: i32, z: i32, level: u32, value: u32) -> u64 {
@@ -28,7 +29,7 @@ fn add_record(sum: u64, x: i32, y: i32, z: i32, level: u32, value: u32) -> u64 {
         series::add(series::add(sum, lifted(x)), lifted(y)),
         lifted(z),
     );
-    series::add(series::add(corner, level as u64), value as u64)
+    series::add(series::add(corner, u64::from(level)), u64::from(value))
 }
 
 fn show_record(
@@ -85,7 +86,7 @@ fn take_records(
 
 // A slot as it is before each call.
 fn is_untouched(x: i32, y: i32, z: i32, level: u32, value: u32) -> bool {
-    (x == 71) & (y == 72) & (z == 73) & (level == 74) & (value == 75)
+    x == 71 && y == 72 && z == 73 && level == 74 && value == 75
 }
 
 // The slots behind the filled ones are as they were.
@@ -97,19 +98,19 @@ fn keeps(
     value: &[u32; 1024],
     filled: usize,
 ) -> bool {
-    let mut kept = true;
     for i in filled..1024 {
-        kept = kept & is_untouched(x[i], y[i], z[i], level[i], value[i]);
+        if !is_untouched(x[i], y[i], z[i], level[i], value[i]) {
+            return false;
+        }
     }
-    kept
+    true
 }
 
 // What a call did that was not refused, or that was.
 fn walked(w: Walked, kept: bool, sum: u64) -> Called {
-    let place = w.place;
     Called {
-        place,
-        refusal: 0,
+        place: w.place,
+        refusal: None,
         filled: w.filled as u64,
         left: w.left,
         kept,
@@ -117,10 +118,10 @@ fn walked(w: Walked, kept: bool, sum: u64) -> Called {
     }
 }
 
-fn refused(place: Place, refusal: u32, kept: bool, sum: u64) -> Called {
+fn refused(place: Place, e: ParseError, kept: bool, sum: u64) -> Called {
     Called {
         place,
-        refusal,
+        refusal: Some(e),
         filled: 0,
         left: place.left,
         kept,
@@ -167,14 +168,14 @@ pub fn call(
         &mut value[0..e],
     );
     match answer {
-        WalkAnswer::Walked(w) => {
+        Ok(w) => {
             let kept = keeps(&x, &y, &z, &level, &value, w.filled);
             let after = take_records(out, shown, sum, &x, &y, &z, &level, &value, w.filled)?;
             Ok(walked(w, kept, after))
         }
-        WalkAnswer::Refused(r) => {
+        Err(e) => {
             let kept = keeps(&x, &y, &z, &level, &value, 0);
-            Ok(refused(place, r, kept, sum))
+            Ok(refused(place, e, kept, sum))
         }
     }
 }

@@ -1,4 +1,4 @@
-// The questions of the program `questions` to the walk call:
+// The questions of the program `questions` to the walk call, and in list.rt what the programs `listing` and `rowlist` have in common:
 //
 //     Walk N K1 K2 ..                    all records of grid N, with K1, K2, .. slots a call, over and over; then one call with five slots
 //     List N                             the records that one call with 1,000 slots hands out
@@ -15,10 +15,11 @@
 
 mod foreign;
 mod lend;
+pub mod list;
 mod words;
 
 use asking::{line, series, show};
-use grid::GridAnswer;
+use fields::ParseError;
 use lend::Called;
 use line::Line;
 use place::Place;
@@ -28,7 +29,7 @@ use std::io::{self, Write};
 #[derive(Clone, Copy)]
 struct State {
     place: Place,
-    refusal: u32,
+    refusal: Option<ParseError>,
     records: u64,
     left: u64,
     kept: bool,
@@ -40,7 +41,7 @@ struct State {
 fn start(place: Place, left: u64) -> State {
     State {
         place,
-        refusal: 0,
+        refusal: None,
         records: 0,
         left,
         kept: true,
@@ -54,26 +55,25 @@ fn start(place: Place, left: u64) -> State {
 fn is_due(k: u64, left: u64, c: Called) -> bool {
     let slots = lend::slots(k) as u64;
     if left < slots {
-        return (c.filled == left) & (c.left == 0);
+        return c.filled == left && c.left == 0;
     }
-    (c.filled == slots) & (std::num::wrapping_add_u64(c.left, slots) == left)
+    c.filled == slots && c.left.wrapping_add(slots) == left
 }
 
 fn is_same(a: Called, b: Called) -> bool {
-    (a.refusal == b.refusal) & (a.filled == b.filled) & (a.left == b.left) & (a.sum == b.sum)
+    a.refusal == b.refusal && a.filled == b.filled && a.left == b.left && a.sum == b.sum
 }
 
 // The walk after a call, which was made twice.
 fn after(w: State, k: u64, c: Called, again: Called) -> State {
-    let place = c.place;
     State {
-        place,
+        place: c.place,
         refusal: c.refusal,
-        records: std::num::wrapping_add_u64(w.records, c.filled),
+        records: w.records.wrapping_add(c.filled),
         left: c.left,
-        kept: w.kept & c.kept & again.kept,
-        due: w.due & is_due(k, w.left, c),
-        same: w.same & is_same(c, again),
+        kept: w.kept && c.kept && again.kept,
+        due: w.due && is_due(k, w.left, c),
+        same: w.same && is_same(c, again),
         sum: c.sum,
     }
 }
@@ -85,8 +85,8 @@ fn step(out: &mut impl Write, s: &[u8], w: State, k: u64, turn: usize) -> io::Re
 }
 
 fn show_state(out: &mut impl Write, w: State) -> io::Result<()> {
-    if w.refusal != 0 {
-        show::refused(out, w.refusal)?;
+    if let Some(e) = w.refusal {
+        show::refused(out, e)?;
         return show::flag(out, w.kept);
     }
     show::number(out, w.records)?;
@@ -117,10 +117,7 @@ fn walk_on(
     let turns = (first.left % 1000000) as usize * 6 + 6;
     for turn in 0..turns {
         w = step(out, s, w, portion(n, count, turn), turn)?;
-        if w.left == 0 {
-            return Ok(w);
-        }
-        if w.refusal != 0 {
+        if w.left == 0 || w.refusal.is_some() {
             return Ok(w);
         }
     }
@@ -144,14 +141,10 @@ fn walk_from(
 
 fn list_from(out: &mut impl Write, s: &[u8], place: Place) -> io::Result<()> {
     let c = lend::call(out, s, place, 1000, 0, true, 0)?;
-    if c.refusal != 0 {
-        show::refused(out, c.refusal)?;
+    match c.refusal {
+        Some(e) => show::refused(out, e),
+        None => Ok(()),
     }
-    Ok(())
-}
-
-fn low(n: u64) -> u32 {
-    (n % 4294967296) as u32
 }
 
 // Questions that begin at the fresh place of a grid of this file.
@@ -162,16 +155,14 @@ fn from_here(
     n: &[u64; 8],
     count: usize,
 ) -> io::Result<()> {
-    match grid::open_grid_numbered(s, low(n[1])) {
-        GridAnswer::Refused(k) => show::refused(out, k),
-        GridAnswer::Grid(g) => {
-            let place = g.place;
-            match command {
-                b'W' => walk_from(out, s, place, g.active_count, n, count),
-                _ => list_from(out, s, place),
-            }
-        }
-    }
+    show::answer(
+        out,
+        grid::open_grid_numbered(s, line::low(n[1])),
+        |out, g| match command {
+            b'W' => walk_from(out, s, g.place, g.active_count, n, count),
+            _ => list_from(out, s, g.place),
+        },
+    )
 }
 
 // The place after m records.
@@ -194,17 +185,17 @@ fn from_kept(
     n: &[u64; 8],
     count: usize,
 ) -> io::Result<()> {
-    match grid::open_grid_numbered(kept, low(n[2])) {
-        GridAnswer::Refused(k) => show::refused(out, k),
-        GridAnswer::Grid(g) => {
-            let fresh = g.place;
-            let place = place_after(out, kept, fresh, n[3])?;
+    show::answer(
+        out,
+        grid::open_grid_numbered(kept, line::low(n[2])),
+        |out, g| {
+            let place = place_after(out, kept, g.place, n[3])?;
             match command {
                 b'N' => next(out, s, place, n[4]),
-                _ => foreign::ask(out, command, count, s, place, n),
+                _ => foreign::ask(out, command == b'P', count, s, place, n),
             }
-        }
-    }
+        },
+    )
 }
 
 pub fn ask(
@@ -221,7 +212,7 @@ pub fn ask(
             out,
             command,
             line::file(m, f),
-            foreign::cut(kept, n[1] as usize),
+            line::cut(kept, n[1] as usize),
             n,
             m.words,
         ),

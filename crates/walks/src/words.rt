@@ -1,5 +1,6 @@
 // A walk's place with one of its words set. Its words are numbered from 0: six of what it started from, the number left, four of its coding, fourteen of
 // its cursor, ten of where it stands in a piece.
+use asking::line;
 use coordinates::GlobalCoord;
 use cursor::{Cursor, Entered};
 use forms::Coding;
@@ -8,16 +9,8 @@ use slots::Inside;
 
 pub const COUNT: usize = 35;
 
-fn low(v: u64) -> u32 {
-    (v % 4294967296) as u32
-}
-
-fn less(w: u64, n: u64) -> u64 {
-    std::num::wrapping_sub_u64(w, n)
-}
-
 fn origin(o: GlobalCoord, w: u64, v: u64) -> GlobalCoord {
-    let c = fields::i32_of(low(v));
+    let c = fields::i32_of(line::low(v));
     match w {
         0 => GlobalCoord(c, o.1, o.2),
         1 => GlobalCoord(o.0, c, o.2),
@@ -28,37 +21,31 @@ fn origin(o: GlobalCoord, w: u64, v: u64) -> GlobalCoord {
 
 fn coding(mut c: Coding, w: u64, v: u64) -> Coding {
     match w {
-        0 => c.version = low(v),
-        1 => c.flags = low(v),
+        0 => c.version = line::low(v),
+        1 => c.flags = line::low(v),
         2 => c.width = v as usize,
-        3 => c.background = low(v),
+        3 => c.background = line::low(v),
         _ => {}
     }
     c
 }
 
 fn entered(mut e: Entered, w: u64, v: u64) -> Entered {
-    let o = e.origin;
-    let set = origin(o, w, v);
-    e.origin = set;
+    e.origin = origin(e.origin, w, v);
     match w {
         3 => e.pos = v as usize,
-        4 => e.next = low(v),
+        4 => e.next = line::low(v),
         _ => {}
     }
     e
 }
 
 fn cursor(mut c: Cursor, w: u64, v: u64) -> Cursor {
-    let five = c.node5;
-    let node5 = entered(five, less(w, 4), v);
-    c.node5 = node5;
-    let four = c.node4;
-    let node4 = entered(four, less(w, 9), v);
-    c.node4 = node4;
+    c.node5 = entered(c.node5, w.wrapping_sub(4), v);
+    c.node4 = entered(c.node4, w.wrapping_sub(9), v);
     match w {
-        0 => c.depth = low(v),
-        1 => c.roots_left = low(v),
+        0 => c.depth = line::low(v),
+        1 => c.roots_left = line::low(v),
         2 => c.topology_pos = v as usize,
         3 => c.block_pos = v as usize,
         _ => {}
@@ -67,16 +54,14 @@ fn cursor(mut c: Cursor, w: u64, v: u64) -> Cursor {
 }
 
 fn inside(mut i: Inside, w: u64, v: u64) -> Inside {
-    let o = i.origin;
-    let set = origin(o, w, v);
-    i.origin = set;
+    i.origin = origin(i.origin, w, v);
     match w {
-        3 => i.level = low(v),
+        3 => i.level = line::low(v),
         4 => i.child_mask = v as usize,
         5 => i.value_mask = v as usize,
-        6 => i.stored = low(v),
+        6 => i.stored = line::low(v),
         7 => i.start = v as usize,
-        8 => i.from = low(v),
+        8 => i.from = line::low(v),
         9 => i.number = v as usize,
         _ => {}
     }
@@ -86,53 +71,42 @@ fn inside(mut i: Inside, w: u64, v: u64) -> Inside {
 fn start(mut t: Start, w: u64, v: u64) -> Start {
     match w {
         0 => t.tiles_pos = v as usize,
-        1 => t.tile_count = low(v),
+        1 => t.tile_count = line::low(v),
         2 => t.roots_pos = v as usize,
-        3 => t.root_count = low(v),
+        3 => t.root_count = line::low(v),
         4 => t.block_pos = v as usize,
         5 => t.length = v,
         _ => {}
     }
-    let c = t.coding;
-    let set = coding(c, less(w, 7), v);
-    t.coding = set;
+    t.coding = coding(t.coding, w.wrapping_sub(7), v);
     t
 }
 
 fn same_coding(a: Coding, b: Coding) -> bool {
-    (a.version == b.version)
-        & (a.flags == b.flags)
-        & (a.width == b.width)
-        & (a.background == b.background)
+    a.version == b.version
+        && a.flags == b.flags
+        && a.width == b.width
+        && a.background == b.background
 }
 
 // Whether two walks start from the same.
 pub fn same_start(a: Start, b: Start) -> bool {
-    let c = a.coding;
-    let d = b.coding;
-    (a.tiles_pos == b.tiles_pos)
-        & (a.tile_count == b.tile_count)
-        & (a.roots_pos == b.roots_pos)
-        & (a.root_count == b.root_count)
-        & (a.block_pos == b.block_pos)
-        & (a.length == b.length)
-        & same_coding(c, d)
+    a.tiles_pos == b.tiles_pos
+        && a.tile_count == b.tile_count
+        && a.roots_pos == b.roots_pos
+        && a.root_count == b.root_count
+        && a.block_pos == b.block_pos
+        && a.length == b.length
+        && same_coding(a.coding, b.coding)
 }
 
 // The place with v as its word w.
-pub fn with(p: Place, w: u64, v: u64) -> Place {
-    let mut q = p;
+pub fn with(mut p: Place, w: u64, v: u64) -> Place {
     if w == 6 {
-        q.left = v;
+        p.left = v;
     }
-    let t = q.start;
-    let set = start(t, w, v);
-    q.start = set;
-    let at = q.cursor;
-    let moved = cursor(at, less(w, 11), v);
-    q.cursor = moved;
-    let i = q.inside;
-    let stands = inside(i, less(w, 25), v);
-    q.inside = stands;
-    q
+    p.start = start(p.start, w, v);
+    p.cursor = cursor(p.cursor, w.wrapping_sub(11), v);
+    p.inside = inside(p.inside, w.wrapping_sub(25), v);
+    p
 }
