@@ -5,12 +5,13 @@ use Prim.Native.Nat.{ℕ, ◌+◌, ◌≤◌}
 use native.Mathlib.Omega.{arith}
 use lib.ListN.{length, length-take, length-drop}
 use Rattle.fields.specs.Answer.{gives}
+use Rattle.fields.specs.Says.{says_answer}
 use Rattle.archive.specs.declared.Asked.{Asked}
 use Rattle.fields.proofs.Answers.{with-back, gives_same}
 use Rattle.slots.specs.Slots.{slot_count}
 use Rattle.grid.specs.Grid.{Grid, grid, open_grid, active_of, place_after}
 use Rattle.grid.specs.declared.OpenedGrid.{OpenedGrid}
-use Rattle.walk.specs.Walk.{says_walk, next_records, walked_to}
+use Rattle.walk.specs.Walk.{next_records, walked_to}
 use Rattle.walk.specs.Demand3.{Calls}
 use Rattle.walk.specs.declared.Walked.{Walked}
 use Rattle.walk.proofs.Demand3.{answered, demand3}
@@ -20,7 +21,7 @@ use Rattle.grid_calls.specs.Calls.{walk_words, OpenCall}
 use Rattle.vdb.specs.Calls.{WordCall, Chained, walk_calls, Served, Walks}
 
 -- what an answer that gives w leaves
-left_so : {s : List ℕ} (c : WordCall s) {w : Walked} → says_walk c.promised.answer ≡ gives w → (c.returned ≡ 0) × (c.counts' ≡ w.filled ∷ w.left ∷ [])
+left_so : {s : List ℕ} (c : WordCall s) {w : Walked} → says_answer c.promised.answer ≡ gives w → (c.returned ≡ 0) × (c.counts' ≡ w.filled ∷ w.left ∷ [])
 unfolding laid
 left_so c e =
     let l = c.promised.left ∙ ap (λ (m : _). laid m walk_words (c.words, c.counts)) e in

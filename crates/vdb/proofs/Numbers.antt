@@ -3,7 +3,7 @@
 use mathlib.Core.Path.{◌≡◌, refl, sym, ap, ◌∙◌}
 use mathlib.Core.List.{List, [], ◌∷◌, ◌++◌}
 use mathlib.Core.Bool.{Bool, true, false, ◌&&◌, ◌||◌, true≢false}
-use mathlib.Core.Option.{Option, none, some}
+use Rattle.std.proofs.Common.{Option, None, Some}
 use Prim.Native.Nat.{ℕ, zero, suc, ◌-◌}
 use native.Mathlib.Omega.{arith}
 use lib.Dec.{ltb, leb, eqb}
@@ -20,6 +20,7 @@ use Rattle.header.specs.declared.ArchiveHeader.{ArchiveHeader}
 use Rattle.descriptor.specs.Descriptor.{names_field, position_field, positions_field, flags_field, descriptor}
 use Rattle.descriptor.specs.declared.GridDescriptor.{GridDescriptor}
 use Rattle.fields.specs.Answer.{Answer, gives, refuses, answer, with}
+use Rattle.fields.specs.Says.{says_answer}
 use Rattle.archive.specs.Archive.{present, descriptors, file, open_file, file_asked, grid_asked, entry_at, file_entry, grid_entry}
 use Rattle.archive.specs.declared.Asked.{Asked}
 use Rattle.transform.specs.Transform.{map_kind_field, scale_field, scale_translate_field, map_field, transform}
@@ -44,7 +45,6 @@ use Rattle.grid.specs.declared.OpenedGrid.{OpenedGrid}
 use Rattle.leaves.specs.Leaves.{leaf_numbered, present_leaf, fill_leaf, fill_leaves}
 use Rattle.origins.specs.Origins.{Axes, leaf_origins}
 use Rattle.slots.specs.Slots.{Slots}
-use Rattle.walk.specs.Walk.{says_walk}
 use Rattle.walk.specs.declared.Walked.{Walked}
 use Rattle.words.specs.Words.{at, layout, has_layout, start_by, place_by, start_words, words_of}
 use Rattle.outward.specs.Outward.{laid}
@@ -339,8 +339,8 @@ with-n (refuses k) f x y = x
 
 present-n : {A : Type 0} (o : Option A) → Answers (present o)
 unfolding present
-present-n none = refl
-present-n (some a) = tt
+present-n None = refl
+present-n (Some a) = tt
 
 -- ---- The answers of the calls.
 file-asked-n : (s : List ℕ) (asked : Asked) (name : List ℕ) → Answers (file_asked s asked name)
@@ -365,8 +365,8 @@ grid-n s asked name = with-n _ _ (file-asked-n s asked name) λ o. with-n _ _ (p
 
 leaf-there-n : (o : Option Block) → Answers (present_leaf o)
 unfolding present_leaf
-leaf-there-n none = refl
-leaf-there-n (some b) = tt
+leaf-there-n None = refl
+leaf-there-n (Some b) = tt
 
 either-n : {A : Type 0} (b : Bool) (m n : Answer A) → Answers m → Answers n → Answers (when b m n)
 unfolding when
@@ -414,15 +414,15 @@ given-at-0 q words lent e = laid-at-0 _ (numbered q) words lent e
 -- a walk call that returns 0 has walked: its words and counts are those of the walk's answer
 pub walked-at-0 :
     {s words counts : List ℕ} {before : Slots} {words' counts' : List ℕ} {after : Slots} (c : WalkCall s words counts before 0 words' counts' after) →
-    (w : Walked) × (gives w ≡ says_walk c.answer) × ((words', counts') ≡ walk_words w)
+    (w : Walked) × (gives w ≡ says_answer c.answer) × ((words', counts') ≡ walk_words w)
 walked-at-0 {words = words} {counts = counts} c = laid-at-0 _ (either (has_layout words) refl) walk_words (words, counts) c.left
   where
     go : {after before : Slots} (m : Answer Walked) → ((k : ℕ) → m ≡ refuses k → (k ≡ 22) × (after ≡ before)) → Answers m
     go (gives w) h = tt
     go (refuses k) h = rw (h k refl).0
 
-    either : (t : Bool) → has_layout words ≡ t → Answers (says_walk c.answer)
-    either true e = go (says_walk c.answer) (c.walked (place_by words) (e, refl)).refused
+    either : (t : Bool) → has_layout words ≡ t → Answers (says_answer c.answer)
+    either true e = go (says_answer c.answer) (c.walked (place_by words) (e, refl)).refused
     either false e = rw (c.foreign e).0 refl
 
 -- And the words that it leaves, whatever words of this layout it was given: the first eleven are the layout and those of what these start from, a number

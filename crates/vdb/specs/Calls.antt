@@ -2,10 +2,10 @@
 use Rattle.std.specs.Prelude.{ℕ, ◌≡◌, List, [], ◌∷◌}
 use Rattle.archive.specs.declared.Asked.{Asked}
 use Rattle.slots.specs.Slots.{Slots}
-use Rattle.walk.specs.Walk.{says_walk}
 use Rattle.walk.specs.Demand3.{Call, Demand3}
 use Rattle.walk.specs.declared.Walked.{Walked}
 use Rattle.fields.specs.Answer.{gives}
+use Rattle.fields.specs.Says.{says_answer}
 use Rattle.grid.specs.declared.OpenedGrid.{OpenedGrid}
 use Rattle.grid_calls.specs.Calls.{WalkCall}
 
@@ -37,7 +37,7 @@ walk_calls (c ∷ cs) = walk_call c ∷ walk_calls cs
 abbrev pub Served : {s : List ℕ} → List (WordCall s) → Type 0
 Served [] = Unit {0}
 Served (c ∷ cs) =
-    ((w : Walked) × (says_walk c.promised.answer ≡ gives w) × (c.returned ≡ 0) × (c.counts' ≡ w.filled ∷ w.left ∷ [])) × Served cs
+    ((w : Walked) × (says_answer c.promised.answer ≡ gives w) × (c.returned ≡ 0) × (c.counts' ≡ w.filled ∷ w.left ∷ [])) × Served cs
 
 -- What holds of such calls over an opened grid o: demand 3 holds of the walk calls behind them, and each is served.
 pub record Walks (s : List ℕ) (asked : Asked) (name : List ℕ) (o : OpenedGrid) (cs : List (WordCall s)) : Type 0 where
