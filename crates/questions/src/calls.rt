@@ -14,75 +14,63 @@
 //
 //     Transform AT
 use crate::{corners, series};
-use answers::{DescriptorAnswer, EntryAnswer, HeaderAnswer};
 use asking::{line, show};
-use fields::Span;
-use leaves::FillAnswer;
+use descriptor::GridDescriptor;
+use fields::{DVec3, ParseError};
+use grid::OpenedGrid;
 use line::Line;
 use metadata::MetadataValue;
 use std::io::{self, Write};
-use transform::{Map, MapField, Scale, ScaleTranslate};
+use transform::Map;
 
 fn header(out: &mut impl Write, s: &[u8]) -> io::Result<()> {
-    match answers::open_file(s) {
-        HeaderAnswer::Refused(k) => show::refused(out, k),
-        HeaderAnswer::Header(h) => {
-            show::small(out, h.file_version)?;
-            show::small(out, h.library_version_major)?;
-            show::small(out, h.library_version_minor)?;
-            show::flag(out, h.packed)?;
-            show::size(out, h.meta_pos)?;
-            show::small(out, h.grid_count)?;
-            show::span(out, s, h.guid)
-        }
-    }
+    show::answer(out, answers::open_file(s), |out, h| {
+        show::small(out, h.file_version)?;
+        show::small(out, h.library_version_major)?;
+        show::small(out, h.library_version_minor)?;
+        show::flag(out, h.packed)?;
+        show::size(out, h.meta_pos)?;
+        show::small(out, h.grid_count)?;
+        show::span(out, s, h.guid)
+    })
 }
 
-fn descriptor(out: &mut impl Write, a: DescriptorAnswer, s: &[u8]) -> io::Result<()> {
-    match a {
-        DescriptorAnswer::Refused(k) => show::refused(out, k),
-        DescriptorAnswer::Descriptor(d) => {
-            show::span(out, s, d.name)?;
-            show::span(out, s, d.grid_type)?;
-            show::span(out, s, d.instance_parent)?;
-            show::size(out, d.grid_pos)?;
-            show::size(out, d.block_pos)?;
-            show::size(out, d.end_pos)?;
-            show::small(out, d.compression)?;
-            let half = d.half;
-            let kind = d.kind;
-            show::size(out, grid::width_of(half, kind))?;
-            show::size(out, d.meta_pos)?;
-            show::size(out, d.tree_pos)
-        }
-    }
+fn descriptor(
+    out: &mut impl Write,
+    a: Result<GridDescriptor, ParseError>,
+    s: &[u8],
+) -> io::Result<()> {
+    show::answer(out, a, |out, d| {
+        show::span(out, s, d.name)?;
+        show::span(out, s, d.grid_type)?;
+        show::span(out, s, d.instance_parent)?;
+        show::size(out, d.grid_pos)?;
+        show::size(out, d.block_pos)?;
+        show::size(out, d.end_pos)?;
+        show::small(out, d.compression)?;
+        show::size(out, grid::width_of(d.half, d.kind))?;
+        show::size(out, d.meta_pos)?;
+        show::size(out, d.tree_pos)
+    })
 }
 
-fn other(out: &mut impl Write, s: &[u8], k: Span, w: Span) -> io::Result<()> {
-    show::span(out, s, k)?;
-    show::span(out, s, w)
-}
-
-fn number(out: &mut impl Write, v: MetadataValue) -> io::Result<()> {
+// A value behind its kind, which is shown by a letter.
+fn value(out: &mut impl Write, v: MetadataValue, s: &[u8]) -> io::Result<()> {
+    show::tag(out, kind(&v))?;
     match v {
+        MetadataValue::String(w) => show::span(out, s, w),
         MetadataValue::Bool(b) => show::flag(out, b),
         MetadataValue::I32(n) => show::signed32(out, n),
         MetadataValue::I64(n) => show::signed(out, n),
         MetadataValue::Float(n) => show::pattern(out, n),
-        _ => Ok(()),
-    }
-}
-
-fn value(out: &mut impl Write, v: MetadataValue, s: &[u8]) -> io::Result<()> {
-    match v {
-        MetadataValue::String(w) => show::span(out, s, w),
         MetadataValue::Vec3i(v) => show::i_vec3(out, v),
-        MetadataValue::Unknown(k, w) => other(out, s, k, w),
-        _ => number(out, v),
+        MetadataValue::Unknown(k, w) => {
+            show::span(out, s, k)?;
+            show::span(out, s, w)
+        }
     }
 }
 
-// The kind of a value, by a letter.
 fn kind(v: &MetadataValue) -> u8 {
     match v {
         MetadataValue::String(_) => b's',
@@ -95,31 +83,15 @@ fn kind(v: &MetadataValue) -> u8 {
     }
 }
 
-fn entry(out: &mut impl Write, a: EntryAnswer, s: &[u8]) -> io::Result<()> {
-    match a {
-        EntryAnswer::Refused(k) => show::refused(out, k),
-        EntryAnswer::Value(v) => {
-            show::tag(out, kind(&v))?;
-            value(out, v, s)
-        }
+fn entry(out: &mut impl Write, a: Result<MetadataValue, ParseError>, s: &[u8]) -> io::Result<()> {
+    show::answer(out, a, |out, v| value(out, v, s))
+}
+
+fn vectors(out: &mut impl Write, row: &[DVec3]) -> io::Result<()> {
+    for v in row {
+        show::d_vec3(out, *v)?;
     }
-}
-
-fn scale(out: &mut impl Write, m: Scale) -> io::Result<()> {
-    show::d_vec3(out, m.scale_values)?;
-    show::d_vec3(out, m.voxel_size)?;
-    show::d_vec3(out, m.scale_values_inverse)?;
-    show::d_vec3(out, m.inv_scale_sqr)?;
-    show::d_vec3(out, m.inv_twice_scale)
-}
-
-fn scale_translate(out: &mut impl Write, m: ScaleTranslate) -> io::Result<()> {
-    show::d_vec3(out, m.translation)?;
-    show::d_vec3(out, m.scale_values)?;
-    show::d_vec3(out, m.voxel_size)?;
-    show::d_vec3(out, m.scale_values_inverse)?;
-    show::d_vec3(out, m.inv_scale_sqr)?;
-    show::d_vec3(out, m.inv_twice_scale)
+    Ok(())
 }
 
 // The map and its vectors in the order of the struct.
@@ -127,127 +99,78 @@ fn map(out: &mut impl Write, m: Map) -> io::Result<()> {
     match m {
         Map::UniformScaleMap(v) => {
             show::tag(out, b's')?;
-            scale(out, v)
+            vectors(
+                out,
+                &[
+                    v.scale_values,
+                    v.voxel_size,
+                    v.scale_values_inverse,
+                    v.inv_scale_sqr,
+                    v.inv_twice_scale,
+                ],
+            )
         }
         Map::ScaleTranslateMap(v) => {
             show::tag(out, b't')?;
-            scale_translate(out, v)
-        }
-    }
-}
-
-fn transform(out: &mut impl Write, s: &[u8], at: usize) -> io::Result<()> {
-    match transform::read_transform(s, at) {
-        MapField::Got(m, p) => {
-            map(out, m)?;
-            show::size(out, p)
-        }
-        MapField::Refused(k) => show::refused(out, k),
-    }
-}
-
-fn counts(
-    out: &mut impl Write,
-    background: u32,
-    roots: u32,
-    leaves: u64,
-    records: u64,
-) -> io::Result<()> {
-    show::pattern(out, background)?;
-    show::small(out, roots)?;
-    show::number(out, leaves)?;
-    show::number(out, records)
-}
-
-fn open(out: &mut impl Write, a: grid::GridAnswer) -> io::Result<()> {
-    match a {
-        grid::GridAnswer::Refused(k) => show::refused(out, k),
-        grid::GridAnswer::Grid(g) => {
-            let m = g.transform;
-            map(out, m)?;
-            let p = g.place;
-            let start = p.start;
-            counts(
+            vectors(
                 out,
-                g.background,
-                start.root_count,
-                g.leaf_count,
-                g.active_count,
+                &[
+                    v.translation,
+                    v.scale_values,
+                    v.voxel_size,
+                    v.scale_values_inverse,
+                    v.inv_scale_sqr,
+                    v.inv_twice_scale,
+                ],
             )
         }
     }
 }
 
-// The refusal of grid 0 of the first i bytes; 0 where there is none.
-pub fn grid_cut(s: &[u8], i: usize) -> u64 {
-    match grid::open_grid_numbered(fields::bytes_of(s, Span { start: 0, len: i }), 0) {
-        grid::GridAnswer::Refused(k) => k as u64,
-        grid::GridAnswer::Grid(_) => 0,
-    }
+fn transform(out: &mut impl Write, s: &[u8], at: usize) -> io::Result<()> {
+    show::answer(out, transform::read_transform(s, at), |out, (m, p)| {
+        map(out, m)?;
+        show::size(out, p)
+    })
 }
 
-pub fn file_cut(s: &[u8], i: usize) -> u64 {
-    match answers::open_file(fields::bytes_of(s, Span { start: 0, len: i })) {
-        HeaderAnswer::Refused(k) => k as u64,
-        HeaderAnswer::Header(_) => 0,
-    }
+fn open(out: &mut impl Write, a: Result<OpenedGrid, ParseError>) -> io::Result<()> {
+    show::answer(out, a, |out, g| {
+        map(out, g.transform)?;
+        show::pattern(out, g.background)?;
+        show::small(out, g.place.start.root_count)?;
+        show::number(out, g.leaf_count)?;
+        show::number(out, g.active_count)
+    })
 }
 
-fn filled(out: &mut impl Write, a: FillAnswer) -> io::Result<()> {
+// The number of the check that refused; 0 where none did.
+fn refusal<T: Drop>(a: Result<T, ParseError>) -> u64 {
     match a {
-        FillAnswer::Refused(k) => show::refused(out, k),
-        FillAnswer::Filled => show::tag(out, b'f'),
+        Ok(_) => 0,
+        Err(e) => u64::from(u32::from(e)),
     }
 }
 
-fn fill_one(
-    words: usize,
+// The values of one leaf, or of the leaves from this one on, of the grid with this number or this name.
+fn fill(
+    joined: bool,
+    numbered: bool,
     s: &[u8],
     name: &[u8],
     grid: u32,
     leaf: u64,
     slots: &mut [u32],
-) -> FillAnswer {
-    if words == 3 {
-        return leaves::fill_leaf_numbered(s, grid, leaf, slots);
-    }
-    leaves::fill_leaf_named(s, name, leaf, slots)
-}
-
-fn fill_joined(
-    words: usize,
-    s: &[u8],
-    name: &[u8],
-    grid: u32,
-    first: u64,
-    slots: &mut [u32],
-) -> FillAnswer {
-    if words == 3 {
-        return leaves::fill_leaves_numbered(s, grid, first, slots);
-    }
-    leaves::fill_leaves_named(s, name, first, slots)
-}
-
-// The values into the first `count` slots.
-fn lend(
-    command: u8,
-    words: usize,
-    s: &[u8],
-    name: &[u8],
-    grid: u32,
-    leaf: u64,
-    slots: &mut [u32],
-    count: usize,
-) -> FillAnswer {
-    if slots.len() < count {
-        return FillAnswer::Refused(0);
-    }
-    match command {
-        b'j' => fill_joined(words, s, name, grid, leaf, &mut slots[0..count]),
-        _ => fill_one(words, s, name, grid, leaf, &mut slots[0..count]),
+) -> Result<(), ParseError> {
+    match (joined, numbered) {
+        (false, false) => leaves::fill_leaf_named(s, name, leaf, slots),
+        (false, true) => leaves::fill_leaf_numbered(s, grid, leaf, slots),
+        (true, false) => leaves::fill_leaves_named(s, name, leaf, slots),
+        (true, true) => leaves::fill_leaves_numbered(s, grid, leaf, slots),
     }
 }
 
+// The values into the first slots. More than there are get no answer of the library, and a refusal that is no check's.
 fn ask_fill(
     out: &mut impl Write,
     command: u8,
@@ -257,58 +180,30 @@ fn ask_fill(
     n: &[u64; 8],
 ) -> io::Result<()> {
     let mut slots = [7u32; 1600];
-    let answer = lend(
-        command,
-        words,
-        s,
-        name,
-        low(n[3]),
-        n[1],
-        &mut slots,
-        n[2] as usize,
-    );
-    filled(out, answer)?;
-    series::ask(out, command, s, &slots, 0, 1600)
+    let count = n[2] as usize;
+    if 1600 < count {
+        show::text(out, b" refused 0")?;
+    } else {
+        let lent = &mut slots[..count];
+        let answer = fill(
+            command == b'j',
+            words == 3,
+            s,
+            name,
+            line::low(n[3]),
+            n[1],
+            lent,
+        );
+        show::answer(out, answer, |out, _| show::tag(out, b'f'))?;
+    }
+    let item = |i: usize| u64::from(slots[i % 1600]);
+    match command {
+        b'v' => series::changes(out, 0, 1600, item, |out, x| show::wide(out, x)),
+        _ => asking::series::row(out, 0, 1600, item),
+    }
 }
 
-fn ask_row(out: &mut impl Write, command: u8, s: &[u8], n: &[u64; 8]) -> io::Result<()> {
-    let slots = [0u32; 1600];
-    series::ask(out, command, s, &slots, n[1] as usize, n[2] as usize)
-}
-
-fn low(n: u64) -> u32 {
-    (n % 4294967296) as u32
-}
-
-fn descriptor_numbered(out: &mut impl Write, s: &[u8], k: u32) -> io::Result<()> {
-    descriptor(out, answers::grid_numbered(s, k), s)
-}
-
-fn descriptor_named(out: &mut impl Write, s: &[u8], name: &[u8]) -> io::Result<()> {
-    descriptor(out, answers::grid_named(s, name), s)
-}
-
-fn file_entry(out: &mut impl Write, s: &[u8], name: &[u8]) -> io::Result<()> {
-    entry(out, answers::file_entry(s, name), s)
-}
-
-fn entry_numbered(out: &mut impl Write, s: &[u8], k: u32, name: &[u8]) -> io::Result<()> {
-    entry(out, answers::grid_entry_numbered(s, k, name), s)
-}
-
-fn entry_named(out: &mut impl Write, s: &[u8], grid: &[u8], name: &[u8]) -> io::Result<()> {
-    entry(out, answers::grid_entry_named(s, grid, name), s)
-}
-
-fn open_numbered(out: &mut impl Write, s: &[u8], k: u32) -> io::Result<()> {
-    open(out, grid::open_grid_numbered(s, k))
-}
-
-fn open_named(out: &mut impl Write, s: &[u8], name: &[u8]) -> io::Result<()> {
-    open(out, grid::open_grid_named(s, name))
-}
-
-// A grid by its number.
+// Questions to a grid by its number.
 fn ask_numbered(
     out: &mut impl Write,
     command: u8,
@@ -317,13 +212,13 @@ fn ask_numbered(
     name: &[u8],
 ) -> io::Result<()> {
     match command {
-        b'd' => descriptor_numbered(out, s, k),
-        b'm' => entry_numbered(out, s, k, name),
-        _ => open_numbered(out, s, k),
+        b'd' => descriptor(out, answers::grid_numbered(s, k), s),
+        b'm' => entry(out, answers::grid_entry_numbered(s, k, name), s),
+        _ => open(out, grid::open_grid_numbered(s, k)),
     }
 }
 
-// A grid by its name.
+// Questions to a grid by its name.
 fn ask_named(
     out: &mut impl Write,
     command: u8,
@@ -332,25 +227,10 @@ fn ask_named(
     name: &[u8],
 ) -> io::Result<()> {
     match command {
-        b'd' => descriptor_named(out, s, name),
-        b'm' => entry_named(out, s, grid, name),
-        _ => open_named(out, s, name),
+        b'd' => descriptor(out, answers::grid_named(s, name), s),
+        b'm' => entry(out, answers::grid_entry_named(s, grid, name), s),
+        _ => open(out, grid::open_grid_named(s, name)),
     }
-}
-
-fn ask_grid(
-    out: &mut impl Write,
-    command: u8,
-    words: usize,
-    s: &[u8],
-    k: u32,
-    grid: &[u8],
-    name: &[u8],
-) -> io::Result<()> {
-    if words == 1 {
-        return ask_numbered(out, command, s, k, name);
-    }
-    ask_named(out, command, s, grid, name)
 }
 
 fn ask_command(
@@ -362,14 +242,30 @@ fn ask_command(
     name: &[u8],
     n: &[u64; 8],
 ) -> io::Result<()> {
+    let from = n[1] as usize;
+    let to = n[2] as usize;
     match command {
         b'h' => header(out, s),
-        b'e' => file_entry(out, s, name),
-        b'd' | b'm' | b'o' => ask_grid(out, command, words, s, low(n[1]), grid, name),
+        b'e' => entry(out, answers::file_entry(s, name), s),
+        b'd' | b'm' | b'o' if words == 1 => ask_numbered(out, command, s, line::low(n[1]), name),
+        b'd' | b'm' | b'o' => ask_named(out, command, s, grid, name),
         b'f' | b'v' | b'j' => ask_fill(out, command, words, s, name, n),
-        b'c' | b't' => ask_row(out, command, s, n),
+        b'c' => series::changes(
+            out,
+            from,
+            to,
+            |i| refusal(grid::open_grid_numbered(line::cut(s, i), 0)),
+            |out, x| show::number(out, x),
+        ),
+        b't' => series::changes(
+            out,
+            from,
+            to,
+            |i| refusal(answers::open_file(line::cut(s, i))),
+            |out, x| show::number(out, x),
+        ),
         b'O' => corners::ask(out, words, s, name, n),
-        b'T' => transform(out, s, n[1] as usize),
+        b'T' => transform(out, s, from),
         _ => Ok(()),
     }
 }

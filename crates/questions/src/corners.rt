@@ -5,8 +5,8 @@
 // It shows the origins, or the refusal, and whether all other slots are as they were.
 ghost use Rattle.std.specs.Prelude.{◌≤◌};
 
-use asking::show;
-use leaves::FillAnswer;
+use asking::{line, show};
+use fields::ParseError;
 use std::io::{self, Write};
 
 fn show_origin(out: &mut impl Write, x: i32, y: i32, z: i32) -> io::Result<()> {
@@ -18,7 +18,7 @@ fn show_origin(out: &mut impl Write, x: i32, y: i32, z: i32) -> io::Result<()> {
 
 // A slot as it is before each call.
 fn is_untouched(x: i32, y: i32, z: i32) -> bool {
-    (x == 71) & (y == 72) & (z == 73)
+    x == 71 && y == 72 && z == 73
 }
 
 // Shows a slot that is filled; whether one that is not is as it was.
@@ -40,27 +40,27 @@ fn show_slots(
 ) -> io::Result<()> {
     let mut kept = true;
     for i in 0..32 {
-        kept = kept & take_slot(out, i < filled, x[i], y[i], z[i])?;
+        kept &= take_slot(out, i < filled, x[i], y[i], z[i])?;
     }
     show::flag(out, kept)
 }
 
 fn show_answer(
     out: &mut impl Write,
-    a: FillAnswer,
+    a: Result<(), ParseError>,
     lent: usize,
     x: &[i32; 32],
     y: &[i32; 32],
     z: &[i32; 32],
 ) -> io::Result<()> {
     match a {
-        FillAnswer::Refused(k) => {
-            show::refused(out, k)?;
-            show_slots(out, 0, x, y, z)
-        }
-        FillAnswer::Filled => {
+        Ok(()) => {
             show::tag(out, b'f')?;
             show_slots(out, lent, x, y, z)
+        }
+        Err(e) => {
+            show::refused(out, e)?;
+            show_slots(out, 0, x, y, z)
         }
     }
 }
@@ -74,7 +74,7 @@ fn call(
     x: &mut [i32],
     y: &mut [i32],
     z: &mut [i32],
-) -> FillAnswer {
+) -> Result<(), ParseError> {
     if words == 5 {
         return origins::origins_numbered(s, grid, first, x, y, z);
     }
@@ -100,7 +100,7 @@ pub fn ask(
     let a = length(n[2]);
     let b = length(n[3]);
     let c = length(n[4]);
-    let grid = (n[5] % 4294967296) as u32;
+    let grid = line::low(n[5]);
     let answer = call(
         words,
         s,
