@@ -1,6 +1,6 @@
 // A line of the input, read character by character: a word, whose first letter is the command, and numbers; then after a colon bytes, as pairs
 // of hexadecimal digits or in quotes. A comma ends a grid's name. A line that begins with # is a comment.
-ghost use Rattle.std.specs.Prelude.{◌≤◌, IfOk, length};
+ghost use Rattle.std.specs.Prelude.{◌%◌, ◌≡◌, ◌≤◌, IfOk, length};
 
 use crate::{file, show};
 use fields::Span;
@@ -76,7 +76,9 @@ pub fn cut(s: &[u8], len: usize) -> &[u8] {
 }
 
 // The lowest 32 bits of a number.
-pub fn low(n: u64) -> u32 {
+pub fn low(n: u64) -> u32
+    ensures { result ≡ n % 4294967296 }
+{
     (n % 4294967296) as u32
 }
 
