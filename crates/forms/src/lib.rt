@@ -6,13 +6,13 @@
 ghost use Rattle.std.specs.Prelude.{◌≡◌};
 ghost use Rattle.fields.specs.Parse.{when};
 ghost use Rattle.fields.specs.Says.{says};
-ghost use Rattle.forms.specs.Forms.{may_pack, form_of, form_field, minus, inactive_field, selection_field, inactives_field, stored_by, head_field};
+ghost use Rattle.forms.specs.Forms.{may_pack, form_selected, form_field, minus, inactive_field, selection_field, inactives_field, stored_by, head_field};
 
 use fields::{Field, ParseError};
 
 // How a grid's values are stored: the file's version, the grid's flags, the width of a stored value, 2 or 4 bytes, and the pattern of the grid's
 // background.
-#[derive(Clone, Copy)]
+#[derive(Clone, Copy, PartialEq, Eq)]
 pub struct Coding {
     pub version: u32,
     pub flags: u32,
@@ -70,12 +70,19 @@ const BARE: Form = Form {
     only_active: true,
 };
 
-// What a node byte selects; one above 6 selects none. It is one match, by which each byte goes a way of its own from here to the run of values: said field
-// by field (`has_second: b == 5`) it costs a third more instructions for each leaf that is passed.
-fn form_of(b: u8) -> Form
-    ensures { result ≡ form_of b }
+// The form of node byte 6, and of all nodes under 222: nothing is carried, and every place is stored.
+const WHOLE: Form = Form {
+    only_active: false,
+    ..BARE
+};
+
+// The form that a node byte selects, with the position after the byte. It is one match, by which each byte goes a way of its own from here to the run of
+// values: said field by field (`has_second: b == 5`) it costs a third more instructions for each leaf that is passed.
+fn select_form(b: u8, p: usize) -> Field<Form>
+    ensures { says result ≡ form_selected b p }
 {
-    match b {
+    let form = match b {
+        0 => BARE,
         1 => Form {
             negated: true,
             ..BARE
@@ -100,26 +107,21 @@ fn form_of(b: u8) -> Form
             has_selection: true,
             ..BARE
         },
-        6 => Form {
-            only_active: false,
-            ..BARE
-        },
-        _ => BARE,
-    }
+        6 => WHOLE,
+        7..=255 => return Err(ParseError::InvalidNodeMetadata),
+    };
+    Ok((form, p))
 }
 
-// The node byte's form; under 222 there is no byte, and as with byte 6 nothing is carried.
+// The node byte's form; under 222 there is no byte.
 fn read_form(s: &[u8], version: u32, at: usize) -> Field<Form>
     ensures { says result ≡ form_field s.now version at }
 {
     if version < 222 {
-        return Ok((form_of(6), at));
+        return Ok((WHOLE, at));
     }
     let (b, p) = fields::read_u8(s, at)?;
-    if 6 < b {
-        return Err(ParseError::InvalidNodeMetadata);
-    }
-    Ok((form_of(b), p))
+    select_form(b, p)
 }
 
 // Minus a float, by its pattern.

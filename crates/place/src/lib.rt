@@ -19,7 +19,7 @@ use slots::Inside;
 
 // What a walk starts from, which tells its grid: how values are stored, where root tiles, roots and blocks start, how many tiles and roots there are,
 // and the length of the active list.
-#[derive(Clone, Copy)]
+#[derive(Clone, Copy, PartialEq, Eq)]
 pub struct Start {
     pub coding: Coding,
     pub tiles_pos: usize,

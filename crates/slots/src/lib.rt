@@ -12,7 +12,8 @@ use coordinates::{GlobalCoord, Index};
 use forms::Coding;
 
 // Where a walk stands in a piece: the piece's level, its origin, where its masks stand, which of its places are stored (0: all, 1: the active
-// ones, else those without a child), where its stored values start; the first place that is not passed, and how many places before it are stored.
+// ones, else those without a child: a number and no enum, since a place's words may hold any), where its stored values start; the first place that is not
+// passed, and how many places before it are stored.
 #[derive(Clone, Copy)]
 pub struct Inside {
     pub level: u32,

@@ -12,9 +12,7 @@ fn is_past(c: Called) -> bool {
 
 // The place handed back starts from the same, and has the number left that is told: so many fewer as were handed out.
 fn goes_on(p: Place, c: Called) -> bool {
-    p.left.wrapping_sub(c.filled) == c.left
-        && c.place.left == c.left
-        && words::same_start(c.place.start, p.start)
+    p.left.wrapping_sub(c.filled) == c.left && c.place.left == c.left && c.place.start == p.start
 }
 
 // No more records than there are slots and than are left, and one at least where there are some of both.

@@ -82,24 +82,6 @@ fn start(mut t: Start, w: u64, v: u64) -> Start {
     t
 }
 
-fn same_coding(a: Coding, b: Coding) -> bool {
-    a.version == b.version
-        && a.flags == b.flags
-        && a.width == b.width
-        && a.background == b.background
-}
-
-// Whether two walks start from the same.
-pub fn same_start(a: Start, b: Start) -> bool {
-    a.tiles_pos == b.tiles_pos
-        && a.tile_count == b.tile_count
-        && a.roots_pos == b.roots_pos
-        && a.root_count == b.root_count
-        && a.block_pos == b.block_pos
-        && a.length == b.length
-        && same_coding(a.coding, b.coding)
-}
-
 // The place with v as its word w.
 pub fn with(mut p: Place, w: u64, v: u64) -> Place {
     if w == 6 {
