@@ -39,6 +39,8 @@ fn store(x: &[i32], y: &[i32], z: &[i32], level: &[u32], value: &[u32], row: &mu
 
 // Fills a row of record slots from its start with the records that follow a place: as many as there are slots, and no more than are left. A place that
 // no call over these bytes gave gets records of this file or 22. A refusal is the call's only where nothing is filled; else the call ends with what is.
+// It goes on by what is filled and not by chunks of the row: from a place never reached a call may fill fewer slots than it is lent, and the next one
+// fills those right behind.
 pub fn walk_records(s: &[u8], p: Place, slots: &mut [Record]) -> Result<Walked, ParseError>
     ensures { Promise s.now p (columns slots.old) result (columns slots.new) }
 {
