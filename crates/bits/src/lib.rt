@@ -21,7 +21,8 @@ pub struct Bits {
     pub children: u64,
 }
 
-// Where the walk stands when it stops, the first slot that it did not fill, and whether all that it needed lies in the file.
+// Where the walk stands when it stops, the first slot that it did not fill, and whether all that it needed lies in the file: a flag and no Result, as the
+// other two hold in either case.
 #[derive(Clone, Copy)]
 pub struct Run {
     pub inside: Inside,

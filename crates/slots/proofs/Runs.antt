@@ -8,6 +8,7 @@ use lib.ListN.{length, length-append}
 use Rattle.forms.specs.declared.Coding.{Coding}
 use Rattle.batch.specs.Inner.{ranged, numbered, InFile}
 use Rattle.slots.specs.Slots.{Slots, put, slots_of, laid_from}
+use Rattle.slots.specs.declared.Axis.TheVariants.{X, Y, Z}
 use Rattle.slots.specs.Inner.{Readable, record_of, corner_at, run_of, axis_of}
 use Rattle.slots.specs.declared.Inside.{Inside}
 use Rattle.slots.proofs.Laws.{in-room, laid-append}
@@ -26,8 +27,8 @@ module _ (s : List ℕ) (c : Coding) (w : Inside) where
 
     -- slice by slice
     pub laid-ranged :
-        (n : ℕ) → laid_from t i (run_of s c w n) ≡ slots_of (ranged t.x i n (λ k. axis_of (corner_at w k) 0)) (ranged t.y i n (λ k. axis_of (corner_at w k) 1))
-        (ranged t.z i n (λ k. axis_of (corner_at w k) 2)) (ranged t.level i n (λ k. w.level)) (ranged t.value i n (numbered s c w.start w.number))
+        (n : ℕ) → laid_from t i (run_of s c w n) ≡ slots_of (ranged t.x i n (λ k. axis_of (corner_at w k) X)) (ranged t.y i n (λ k. axis_of (corner_at w k) Y))
+        (ranged t.z i n (λ k. axis_of (corner_at w k) Z)) (ranged t.level i n (λ k. w.level)) (ranged t.value i n (numbered s c w.start w.number))
     unfolding run_of laid_from ranged
     laid-ranged zero = refl
     laid-ranged (suc n) = laid-run n ∙ ap (λ (u : Slots). put u (i + n) (record_of (corner_at w n) w.level (numbered s c w.start w.number n))) (laid-ranged n)

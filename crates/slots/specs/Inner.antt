@@ -7,6 +7,8 @@ use Rattle.coordinates.specs.Coordinates.{index, global_of, aligned, places}
 use Rattle.coordinates.specs.declared.GlobalCoord.{GlobalCoord}
 use Rattle.batch.specs.Inner.{numbered}
 use Rattle.tree.specs.Active.{Record, side_of, edge_of}
+use Rattle.slots.specs.declared.Axis.{Axis}
+use Rattle.slots.specs.declared.Axis.TheVariants.{X, Y, Z}
 use Rattle.slots.specs.Slots.{Slots}
 use Rattle.slots.specs.declared.Inside.{Inside}
 
@@ -59,8 +61,8 @@ unfoldable pub run_of : List ℕ → Coding → Inside → ℕ → List Record
 run_of s c w zero = []
 run_of s c w (suc n) = run_of s c w n ++ record_of (corner_at w n) w.level (numbered s c w.start w.number n) ∷ []
 
--- a coordinate along x, y or z: axis 0, 1 or else
-abbrev pub axis_of : GlobalCoord → ℕ → ℤ
-axis_of o zero = o.0
-axis_of o (suc zero) = o.1
-axis_of o (suc (suc n)) = o.2
+-- a coordinate along an axis
+abbrev pub axis_of : GlobalCoord → Axis → ℤ
+axis_of o X = o.0
+axis_of o Y = o.1
+axis_of o Z = o.2

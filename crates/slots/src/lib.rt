@@ -72,19 +72,26 @@ pub fn put_record(
     value[i] = v;
 }
 
+#[derive(Clone, Copy)]
+enum Axis {
+    X,
+    Y,
+    Z,
+}
+
 // One coordinate of a corner.
-fn along(o: GlobalCoord, axis: u32) -> i32
+fn along(o: GlobalCoord, axis: Axis) -> i32
     ensures { result ≡ axis_of o axis }
 {
     match axis {
-        0 => o.0,
-        1 => o.1,
-        _ => o.2,
+        Axis::X => o.0,
+        Axis::Y => o.1,
+        Axis::Z => o.2,
     }
 }
 
 // One coordinate of the corners of the next 64 places.
-fn fill_axis(w: Inside, axis: u32, slot: usize, x: &mut [i32])
+fn fill_axis(w: Inside, axis: Axis, slot: usize, x: &mut [i32])
     requires { (w.from + 64 ≤ places (edge_of w.level)) × (aligned (edge_of w.level * side_of w.level) w.origin ≡ true) × (slot + 64 ≤ length x.old) }
     ensures { x.new ≡ ranged x.old slot 64 (λ k. axis_of (corner_at w k) axis) }
 {
@@ -109,9 +116,9 @@ pub fn fill_full(
     requires { Readable s.now c room w × (w.from + 64 ≤ places (edge_of w.level)) × (w.number + 64 ≤ room) × Room (slot + 64) (slots_of x.old y.old z.old level.old value.old) }
     ensures { slots_of x.new y.new z.new level.new value.new ≡ laid_from (slots_of x.old y.old z.old level.old value.old) slot (run_of s.now c w 64) }
 {
-    fill_axis(w, 0, slot, x);
-    fill_axis(w, 1, slot, y);
-    fill_axis(w, 2, slot, z);
+    fill_axis(w, Axis::X, slot, x);
+    fill_axis(w, Axis::Y, slot, y);
+    fill_axis(w, Axis::Z, slot, z);
     batch::fill_same(w.level, slot, level);
     batch::fill_values(s, c, w.start, w.number, slot, value);
 }
