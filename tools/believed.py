@@ -56,7 +56,6 @@ OPAQUE = {
 
 # crate::name of definitions that --check lets stand where they are, each with its reason.
 ALLOWED = {
-    'fields::says_end': 'an answer of which only the end is kept: it stands beside says',
     'grid::start_of': 'what place_after, a name for a place, is made of: it stands beside it',
 }
 

@@ -9,7 +9,7 @@ ghost use Rattle.archive.specs.Archive.{repeated, is_asked, file_asked};
 ghost use Rattle.archive.specs.Inner.{next_field, grids_field};
 
 use descriptor::GridDescriptor;
-use fields::{Field, ParseError, Span};
+use fields::{Difference, Field, ParseError, Span};
 use header::ArchiveHeader;
 
 // Which grid is asked for, if any; a name stands beside it.
@@ -52,8 +52,9 @@ fn same_name(a: &[u8], b: &[u8], places: &mut [usize; 64], n: usize) -> bool
         return false;
     }
     match fields::first_difference(a, b) {
-        None => true,
-        Some(p) => {
+        Difference::Nowhere => true,
+        Difference::Lengths => false,
+        Difference::At(p) => {
             places[n] = p;
             false
         }

@@ -55,6 +55,9 @@ pub fn filled(from: &mut impl Read, t: &mut [u8]) -> io::Result<usize>
             break;
         }
         len += n;
+        if len == t.len() {
+            break;
+        }
     }
     Ok(len)
 }

@@ -73,9 +73,9 @@ pub fn i_vec3(out: &mut impl Write, v: IVec3) -> io::Result<()> {
 }
 
 // The check that refused, by its number.
-pub fn refused(out: &mut impl Write, e: ParseError) -> io::Result<()> {
+pub fn refused(out: &mut impl Write, k: u32) -> io::Result<()> {
     text(out, b" refused")?;
-    small(out, u32::from(e))
+    small(out, k)
 }
 
 // What was asked for, or the check that refused.
@@ -88,7 +88,7 @@ pub fn answer<W: Write, T: Drop, F: FnOnce(&mut W, T) -> io::Result<()>>(
 {
     match a {
         Ok(t) => shown(out, t),
-        Err(e) => refused(out, e),
+        Err(e) => refused(out, u32::from(e)),
     }
 }
 

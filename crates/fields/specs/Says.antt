@@ -35,11 +35,6 @@ abbrev pub says : {A : Type 0} → Result (A × ℕ) ParseError → Parse A
 says (Ok (v, n)) = got v n
 says (Err e) = fails (number e)
 
--- the same where only the end is kept
-abbrev pub says_end : Result ℕ ParseError → Parse Unit
-says_end (Ok n) = got tt n
-says_end (Err e) = fails (number e)
-
 -- an answer to a caller
 abbrev pub says_answer : {A : Type 0} → Result A ParseError → Answer A
 says_answer (Ok a) = gives a

@@ -3,7 +3,8 @@
 
 ghost use Rattle.std.specs.Prelude.{◌≡◌};
 ghost use Rattle.header.specs.Header.{magic_field, version_field, offsets_field, packed_field, front_field, count_field, header};
-ghost use Rattle.fields.specs.Says.{says, says_end};
+ghost use Rattle.fields.specs.Inner.{says_end};
+ghost use Rattle.fields.specs.Says.{says};
 
 use fields::{Field, ParseError, Span};
 

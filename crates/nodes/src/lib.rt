@@ -2,8 +2,8 @@
 #![tactic(auto)]
 
 ghost use Rattle.std.specs.Prelude.{◌≡◌, ◌≤◌, ◌%◌};
-ghost use Rattle.fields.specs.Inner.{end_of};
-ghost use Rattle.fields.specs.Says.{says, says_end};
+ghost use Rattle.fields.specs.Inner.{end_of, says_end};
+ghost use Rattle.fields.specs.Says.{says};
 ghost use Rattle.half.specs.Inner.{IsWidth};
 ghost use Rattle.masks.specs.Masks.{mask_bit, count_below};
 ghost use Rattle.masks.specs.Inner.{IsMask};

@@ -182,7 +182,7 @@ fn ask_fill(
     let mut slots = [7u32; 1600];
     let count = n[2] as usize;
     if 1600 < count {
-        show::text(out, b" refused 0")?;
+        show::refused(out, 0)?;
     } else {
         let lent = &mut slots[..count];
         let answer = fill(

@@ -59,7 +59,7 @@ fn show_answer(
             show_slots(out, lent, x, y, z)
         }
         Err(e) => {
-            show::refused(out, e)?;
+            show::refused(out, u32::from(e))?;
             show_slots(out, 0, x, y, z)
         }
     }

@@ -2,7 +2,8 @@
 #![tactic(auto)]
 
 ghost use Rattle.std.specs.Prelude.{◌≡◌, not, ◌&&◌};
-ghost use Rattle.fields.specs.Says.{says, says_end};
+ghost use Rattle.fields.specs.Inner.{says_end};
+ghost use Rattle.fields.specs.Says.{says};
 ghost use Rattle.coordinates.specs.Coordinates.{aligned};
 ghost use Rattle.roots.specs.Roots.{is_among, origin_field, tiles_field, tree_head_field};
 

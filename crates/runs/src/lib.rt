@@ -7,8 +7,8 @@ ghost use Rattle.std.specs.Prelude.{◌≡◌, ◌*◌, ◌≤◌, ◌<◌};
 ghost use Rattle.masks.specs.Masks.{mask_bit, count_below};
 ghost use Rattle.masks.specs.Inner.{IsMask};
 ghost use Rattle.half.specs.Inner.{IsWidth};
-ghost use Rattle.fields.specs.Inner.{end_of};
-ghost use Rattle.fields.specs.Says.{says, says_end};
+ghost use Rattle.fields.specs.Inner.{end_of, says_end};
+ghost use Rattle.fields.specs.Says.{says};
 ghost use Rattle.runs.specs.Runs.{is_stored, number_of, count_of, is_sized, number_field, run_field, values_field};
 
 use coordinates::Index;

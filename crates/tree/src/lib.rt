@@ -4,8 +4,7 @@
 
 ghost use Rattle.std.specs.Prelude.{◌≡◌, ◌≤◌, []};
 ghost use Rattle.fields.specs.Parse.{many};
-ghost use Rattle.fields.specs.Inner.{end_of};
-ghost use Rattle.fields.specs.Says.{says_end};
+ghost use Rattle.fields.specs.Inner.{end_of, says_end};
 ghost use Rattle.coordinates.specs.declared.GlobalCoord.{GlobalCoord as Origin};
 ghost use Rattle.half.specs.Inner.{IsWidth};
 ghost use Rattle.masks.specs.Masks.{mask_bit, ones};

@@ -86,7 +86,7 @@ fn step(out: &mut impl Write, s: &[u8], w: State, k: u64, turn: usize) -> io::Re
 
 fn show_state(out: &mut impl Write, w: State) -> io::Result<()> {
     if let Some(e) = w.refusal {
-        show::refused(out, e)?;
+        show::refused(out, u32::from(e))?;
         return show::flag(out, w.kept);
     }
     show::number(out, w.records)?;
@@ -142,7 +142,7 @@ fn walk_from(
 fn list_from(out: &mut impl Write, s: &[u8], place: Place) -> io::Result<()> {
     let c = lend::call(out, s, place, 1000, 0, true, 0)?;
     match c.refusal {
-        Some(e) => show::refused(out, e),
+        Some(e) => show::refused(out, u32::from(e)),
         None => Ok(()),
     }
 }
