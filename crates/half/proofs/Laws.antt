@@ -267,6 +267,9 @@ normal-exponent h e =
     (ltb→lt 0 (exponent h) (and_l a b t), ltb→lt (exponent h) 31 (and_r a b t))
 
 -- by the number without its sign
+pub low-not-normal : (h : ℕ) → h % 32768 < 1024 → false ≡ is_normal h
+low-not-normal h l = sym (simp (le-ltb 0 (exponent h) (omega arith)))
+
 pub rest-normal : (h : ℕ) → 1024 ≤ h % 32768 → ltb (h % 32768) 31744 ≡ is_normal h
 rest-normal h l = go (ltb (h % 32768) 31744) refl
   where

@@ -1,16 +1,16 @@
 -- Laws of the ones among places, for any truth value f of a place.
 use mathlib.Core.Path.{◌≡◌, refl, sym, ap, ◌∙◌, subst}
 use mathlib.Core.Logic.{◌↔◌, ◌⊎◌, inl, inr, ⊎_elim}
-use mathlib.Core.Bool.{Bool, true, false, not, ◌&&◌, cond, beq, true≢false, false≢true}
+use mathlib.Core.Bool.{Bool, true, false, not, ◌&&◌, cond, beq, true≢false, false≢true, and-eq-true_iff}
 use mathlib.Core.List.Memᴰ
 use mathlib.Core.List.{List, [], ◌∷◌, ◌++◌, Memᴰ}
 use Prim.Native.Nat.{ℕ, zero, suc, ◌+◌, ◌-◌, ◌≤◌, ◌<◌}
-use native.Mathlib.Nat.{add-zero, zero-add, add-suc, suc-add, not-suc-le-zero, le_of_suc-le-suc, sub-zero, eq-or-lt_of_le}
+use native.Mathlib.Nat.{add-zero, zero-add, add-suc, suc-add, not-suc-le-zero, le_of_suc-le-suc, sub-zero, eq-or-lt_of_le, lt_of_not-le}
 use native.Mathlib.Numerals.{add-one}
 use native.Mathlib.Omega.{arith}
 use lib.ListN.{length, get_or, length-append}
 use lib.Seq.{get_or-append_seam}
-use borrow.Author.Tests.{not-false}
+use borrow.Author.Tests.{not-true, not-false}
 use Rattle.std.proofs.Common.{Some, None}
 use Rattle.coordinates.specs.Coordinates.{index}
 use Rattle.coordinates.specs.declared.Index.{Index}
@@ -195,7 +195,26 @@ module _ (f : ℕ → Bool) where
       go rest false e i h =
           rw (ones-zero f p k e) (numbered_step p k i i _ (rw e (zero-add i)) (rest i (rw (ones-zero f p k e) at h)))
 
-  -- a one is the element that its ones below number
+  -- the list rises
+  pub ones-rise : (p k i j d : ℕ) → i < j → j < length (ones_from f p k) → get_or (ones_from f p k) i d < get_or (ones_from f p k) j d
+  ones-rise p k i j d h l =
+      let a = ones-numbered k p i d (omega arith) in
+      let b = ones-numbered k p j d l in
+      lt_of_not-le (λ (g : get_or (ones_from f p k) j d ≤ get_or (ones_from f p k) i d).
+      omega (arith, length-mono f p (get_or (ones_from f p k) j d - p) (get_or (ones_from f p k) i d - p) (omega arith)))
+
+  -- the element number j of a mask's ones: its bit is one, and it has j ones below it
+  module _ (n j d : ℕ) (h : j < length (ones f n)) where
+    pub nth-lt : get_or (ones f n) j d < n
+    nth-lt = omega (arith, (ones-numbered n 0 j d h).1)
+
+    pub nth-one : f (get_or (ones f n) j d) ≡ true
+    nth-one = (ones-numbered n 0 j d h).2
+
+    pub nth-below : count_below f (get_or (ones f n) j d) ≡ j
+    nth-below = rw sub-zero at (ones-numbered n 0 j d h).3
+
+  -- and a one is the element that its ones below number
   pub one-nth : (n q d : ℕ) → f q ≡ true → q < n → get_or (ones f n) (count_below f q) d ≡ q
   one-nth n q d e h =
       let s = ones_split 0 n q (omega arith, omega arith, e) in
@@ -232,7 +251,7 @@ module _ (f : ℕ → Bool) (n p : ℕ) where
   pub next-some : (q : Index) → (next_one f n p ≡ Some q) ↔ (ones_from f p (n - p) ≡ q.0 ∷ ones_from f (suc q.0) (n - suc q.0))
   next-some q = (λ e. next-split q.0 (next-numbered q e), λ e. ap first e)
 
-  -- it is a one at or after p
+  -- it is a one at or after p, with zeros alone before it
   pub next-from : (q : Index) → next_one f n p ≡ Some q → p ≤ q.0
   next-from q e = (next-numbered q e).0
 
@@ -241,6 +260,9 @@ module _ (f : ℕ → Bool) (n p : ℕ) where
 
   pub next_one_lem : (q : Index) → next_one f n p ≡ Some q → f q.0 ≡ true
   next_one_lem q e = (next-numbered q e).2
+
+  pub next-zeros : (q : Index) → next_one f n p ≡ Some q → ones_from f p (q.0 - p) ≡ []
+  next-zeros q e = length-nil _ (next-numbered q e).3
 
   -- and as many ones are below it as below p
   pub next-count : (q : Index) → next_one f n p ≡ Some q → count_below f q.0 ≡ count_below f p
@@ -293,6 +315,26 @@ overlap-false f g n =
 
 pub overlap-apart : (f g : ℕ → Bool) (n q : ℕ) → overlap f g n ≡ false → q < n → f q ≡ true → g q ≡ false
 overlap-apart f g n q e h t = rw t at ((overlap-false f g n).0 e q h)
+
+-- some place is a one of both
+mem-is_nil : (l : List ℕ) (q : ℕ) → Memᴰ q l → is_nil l ≡ false
+mem-is_nil [] q m = absurd (Memᴰ.not-nil m)
+mem-is_nil (p ∷ l) q m = refl
+
+is_nil-false : (l : List ℕ) → is_nil l ≡ false → 0 < length l
+is_nil-false [] e = absurd (true≢false e)
+is_nil-false (p ∷ l) e = omega arith
+
+pub overlap-at : (f g : ℕ → Bool) (n q : ℕ) → q < n → f q ≡ true → g q ≡ true → overlap f g n ≡ true
+overlap-at f g n q h t u =
+    rw (mem-is_nil _ q ((ones-mem (λ q. f q && g q) 0 n q).1 (omega arith, omega arith, (and-eq-true_iff (f q) (g q)).1 (t, u))))
+
+pub overlap-some : (f g : ℕ → Bool) (n : ℕ) → overlap f g n ≡ true → (q : ℕ) × (q < n) × (f q ≡ true) × (g q ≡ true)
+overlap-some f g n e =
+    let h = is_nil-false (ones (λ q. f q && g q) n) (not-true _ e) in
+    let q = get_or (ones (λ q. f q && g q) n) 0 0 in
+    let b = (and-eq-true_iff (f q) (g q)).0 (nth-one (λ q. f q && g q) n 0 0 h) in
+    (q, nth-lt (λ q. f q && g q) n 0 0 h, b.0, b.1)
 
 -- the places agree
 pub differ-false : (a b : Bool) → (not (beq a b) ≡ false) ↔ (a ≡ b)

@@ -137,6 +137,18 @@ module _ {o : GlobalCoord} (v : IVec3) (earlier : List GlobalCoord) {ok : Bool} 
   pub new-origin : ok ≡ true → got o p ≡ check (aligned 4096 (origin_of v) && not (is_among (origin_of v) earlier)) 17 (got (origin_of v) p)
   new-origin h = check-passes 17 (sym h ∙ rw e at k) (ap (λ (x : GlobalCoord). got x p) e)
 
+-- an origin that was read is aligned, and what follows it lies in the file
+pub origin-aligned : (earlier : List GlobalCoord) (s : List ℕ) (at : ℕ) → Always (λ o p. (aligned 4096 o ≡ true) × (at ≤ p) × (p ≤ length s)) (origin_field s earlier at)
+unfolding origin_field
+origin-aligned earlier s at =
+    then-always _ _ _ λ v p e. check-always _ _ _ _ λ ok. got-always _ _ _
+    (let b = field_back s at 12 _ e in
+    (both_first _ _ ok, omega (arith, b.2), omega (arith, b.0, b.2)))
+  where
+    both_first : (a b : Bool) → (a && b) ≡ true → a ≡ true
+    both_first true b e = refl
+    both_first false b e = e
+
 -- an origin that was read is a multiple of 4096, and new
 pub origin-new : (earlier : List GlobalCoord) (s : List ℕ) (at : ℕ) → Always (λ o p. (aligned 4096 o ≡ true) × (is_among o earlier ≡ false)) (origin_field s earlier at)
 unfolding origin_field

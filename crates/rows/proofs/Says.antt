@@ -85,6 +85,11 @@ promise-of {t = t} {rs = rs} q e =
       past_end = q.past_end;
     }
 
+-- no more records than slots
+pub says-few : (s : List ℕ) (p : Place) (k : ℕ) (r : Result Walked ParseError) (rs : List Record) → Says s p k r rs → length rs ≤ k
+says-few s p k (Ok w) rs q = let d = q.some-records w refl in omega (arith, d.0, d.1)
+says-few s p k (Err e) rs q = rw (q.refused (number e) refl).1 (omega arith)
+
 -- ---- A second call goes on from where the first one stopped.
 -- what is left behind an answer, for another number of slots; and behind two calls, of which the first handed out records
 left-for : {p : Place} {k n : ℕ} {w : Walked} → LeftBehind p k w → (0 < n → 0 < p.left → 0 < w.filled) → LeftBehind p n w

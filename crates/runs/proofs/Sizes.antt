@@ -36,6 +36,9 @@ minus-small (suc b) h = omega arith
 minus_is : (b : ℕ) → b ≤ 131072 → pos 0 -ℤ to_z w64 b ≡ neg_ℤ (pos b)
 minus_is b few = rw (to_z_pos w64 b (omega arith)) (minus b)
 
+pub minus-fits : {b : ℕ} → b ≤ 131072 → SFits w64 (pos 0 -ℤ to_z w64 b)
+minus-fits {b} few = record { sfits = rw (minus_is b few) (minus-small b few) }
+
 pub same_size :
     {bytes count width : ℕ} → (count ≤ 32768) × IsWidth width × (bytes ≡ count * width) → {z : ℤ} → SFits w64 z →
     eqb (of_z w64 z) (of_z w64 (pos 0 -ℤ to_z w64 bytes)) ≡ same_int z (neg_ℤ (pos (count * width)))

@@ -1,8 +1,12 @@
 -- Signed numbers against their patterns.
 use mathlib.Core.Path.{◌≡◌, refl, sym, ap, ◌∙◌}
-use Prim.Native.Nat.{suc, ◌-◌, ◌%◌}
+use mathlib.Core.Bool.{true, false}
+use Prim.Native.Nat.{ℕ, suc, ◌-◌, ◌%◌, ◌<◌, ◌^◌}
 use native.Mathlib.Omega.{arith}
+use lib.Dec.{ltb}
 use lib.IntN.{ℤ, pos, negsuc}
+use lib.Signed.{lt_z}
+use borrow.Author.Tests.{ltb-true}
 use mir.Syntax.{w32, w64}
 use mir.Val.{SFits, to_z, of_z}
 use mir.Facts.{to_z-of_z, to_z_pos, to_z-neg, sfits_widen}
@@ -10,6 +14,20 @@ use Rattle.fields.specs.Le.{signed}
 use Rattle.fields.proofs.Laws.{signed32}
 use Rattle.place.specs.declared.Place.{Place}
 use Rattle.words.specs.Words.{pattern, low32, StandFor, start_by, start_words, cursor_by, cursor_words, inside_by, inside_words, place_by, words_of}
+
+-- a negative number's bits, turned over, are the number that its pattern lacks to the largest word
+pub below :
+    (z : ℤ) → SFits w64 z → lt_z (to_z w64 (of_z w64 z)) (pos 0) ≡ true → (k : ℕ) × (to_z w64 (18446744073709551615 - of_z w64 z) ≡ pos k) × (k < 2 ^ 63) × (18446744073709551615 - k ≡ pattern z)
+below (pos n) h t =
+    let f : ltb n 0 ≡ true = sym (ap (λ (x : ℤ). lt_z x (pos 0)) (to_z_pos w64 h.sfits)) ∙ t in
+    absurd (omega (arith, ltb-true n 0 f))
+below (negsuc k) h t =
+    let e : 18446744073709551615 - (18446744073709551616 - suc k) ≡ k = omega (arith, h.sfits) in
+    (k, ap (to_z w64) e ∙ to_z_pos w64 h.sfits, h.sfits, λ i. 18446744073709551615 - k)
+
+pub above : (z : ℤ) → SFits w64 z → lt_z (to_z w64 (of_z w64 z)) (pos 0) ≡ false → (k : ℕ) × (to_z w64 (of_z w64 z) ≡ pos k) × (k < 2 ^ 63) × (k ≡ pattern z)
+above (pos n) h t = (n, to_z_pos w64 h.sfits, h.sfits, λ i. n)
+above (negsuc k) h t = let z : ◌≡◌ {A = ℕ} 0 1 = cc (ap (λ (x : ℤ). lt_z x (pos 0)) (to_z-of_z h)) in absurd (omega arith)
 
 -- a coordinate made wider is the same number
 pub widened : {y z : ℤ} → SFits w32 z → y ≡ to_z w32 (of_z w32 z) → to_z w64 (of_z w64 y) ≡ z
