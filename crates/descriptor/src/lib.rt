@@ -111,6 +111,8 @@ fn half_of(found: Option<Entry>) -> Option<bool>
 {
     match found?.value {
         MetadataValue::Bool(b) => Some(b),
+        // an int32 says nothing, not even where it is 0 or 1
+        MetadataValue::I32(_) => None,
         _ => None,
     }
 }

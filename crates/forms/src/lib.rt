@@ -4,8 +4,10 @@
 #![tactic(auto)]
 
 ghost use Rattle.std.specs.Prelude.{◌≡◌};
-ghost use Rattle.fields.specs.Parse.{when};
+ghost use Rattle.fields.specs.Parse.{field, when};
 ghost use Rattle.fields.specs.Says.{says};
+ghost use Rattle.half.specs.Inner.{IsWidth};
+ghost use Rattle.half.specs.Half.{stored_value};
 ghost use Rattle.forms.specs.Forms.{may_pack, form_selected, form_field, minus, inactive_field, selection_field, inactives_field, stored_by, head_field};
 
 use fields::{Field, ParseError};
@@ -124,6 +126,17 @@ fn read_form(s: &[u8], version: u32, at: usize) -> Field<Form>
     select_form(b, p)
 }
 
+// A value as a field: a half, widened, where the width is 2, else four bytes.
+fn read_value(s: &[u8], at: usize, width: usize) -> Field<u32>
+    requires { IsWidth width }
+    ensures { says result ≡ field s.now width (stored_value s.now width at) at }
+{
+    if fields::remaining(s, at) < width {
+        return Err(ParseError::PastEnd);
+    }
+    Ok((half::value_at(s, at, width), at + width))
+}
+
 // Minus a float, by its pattern.
 fn minus(v: u32) -> u32
     ensures { result ≡ minus v }
@@ -146,7 +159,7 @@ fn read_inactive(s: &[u8], carried: bool, other: u32, at: usize) -> Field<u32>
     ensures { says result ≡ inactive_field s.now carried other at }
 {
     if carried {
-        return fields::read_u32(s, at);
+        return read_value(s, at, 4);
     }
     Ok((other, at))
 }

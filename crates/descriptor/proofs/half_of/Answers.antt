@@ -25,6 +25,10 @@ pub returns-in-Bool : goal.returns-in-Bool
 unfolding half_entry half_by
 returns-in-Bool c = rw (c.in_ok-b.was, c.in-Bool.is) refl
 
+pub returns-in-I32 : goal.returns-in-I32
+unfolding half_entry half_by
+returns-in-I32 c = rw (c.in_ok-b.was, c.in-I32.is) refl
+
 pub returns-in_default : goal.returns-in_default
 unfolding half_entry
 returns-in_default c = rw c.in_ok-b.was (no-bool _ c.in_default.not-Bool)
