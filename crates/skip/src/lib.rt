@@ -245,7 +245,12 @@ pub fn skip(
         leaves,
     };
     loop {
-        let Some((piece, behind)) = cursor::next_piece(s, c, t.cursor)? else {
+        // no `?`: a refusal has an arm of its own, which the edit refusal_as_end makes wrong
+        let next = match cursor::next_piece(s, c, t.cursor) {
+            Ok(next) => next,
+            Err(e) => return Err(e),
+        };
+        let Some((piece, behind)) = next else {
             return Ok(Skipped::End {
                 records: t.records,
                 leaves: t.leaves,

@@ -3,8 +3,8 @@ use mathlib.Core.Path.{◌≡◌}
 use Rattle.skip.specs.Inner.{skip_of, left}
 use Rattle.skip.proofs.skip.Given as goal
 
-abbrev pub invariant-loop-piece : goal.invariant-loop-piece
-invariant-loop-piece l = skip_of l.s l.c l.t ≡ skip_of l.s l.c l.initial.t
+abbrev pub invariant-loop-next : goal.invariant-loop-next
+invariant-loop-next l = skip_of l.s l.c l.t ≡ skip_of l.s l.c l.initial.t
 
-abbrev pub decreases-loop-piece : goal.decreases-loop-piece
-decreases-loop-piece l = left l.s l.c l.t
+abbrev pub decreases-loop-next : goal.decreases-loop-next
+decreases-loop-next l = left l.s l.c l.t
